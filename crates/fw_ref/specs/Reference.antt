@@ -1,0 +1,64 @@
+-- The reference: one store that answers the requests of one list, each client's stamp once.
+use Rattle.std.specs.Prelude.{ℕ, nat_eq, nat_lt, List, [], ◌∷◌, replicate, Option, Some, None, slice_index_or, slice_set, if◌then◌else◌}
+use Rattle.fw_ref.specs.declared.ops.Op.{Op}
+use Rattle.fw_ref.specs.declared.ops.Reply.{Reply}
+use Rattle.fw_ref.specs.declared.ops.Reply.TheVariants.{Old, Bad, Null}
+use Rattle.fw_ref.specs.declared.ops.Answer.{Answer}
+use Rattle.fw_ref.specs.declared.ops.Asked.{Asked}
+use Rattle.fw_ref.specs.declared.store.Start.{Start}
+use Rattle.fw_ref.specs.declared.replica.Last.{Last}
+use Rattle.fw_ref.specs.Store.{applied}
+
+-- the records, and per client the last stamp and the reply to it
+pub record Reference : Type 0 where
+  pub records : List Start
+  pub last : List Last
+
+-- a request that was opened: an operation, or none where it is no operation
+pub record Opened : Type 0 where
+  pub client : ℕ
+  pub stamp : ℕ
+  pub op : Option Op
+
+abbrev pub opened : Asked → Opened
+opened a = record { client = a.client; stamp = a.stamp; op = Some a.op }
+
+-- no stamp yet
+abbrev pub unasked : Last
+unasked = record { stamp = 0; reply = Null }
+
+-- no records, and nothing answered
+abbrev pub at_start : Reference
+at_start = record { records = []; last = replicate 8 unasked }
+
+abbrev pub answered : ℕ → Option Op → List Start → Reply × List Start
+answered client None records = (Bad, records)
+answered client (Some op) records = applied client op records
+
+-- a new stamp: the store's reply is kept with it
+abbrev pub renewed : Opened → Reply × List Start → Reference → Reply × Reference
+renewed o done m = (done.0, record { records = done.1; last = slice_set m.last o.client (record { stamp = o.stamp; reply = done.0 }) })
+
+-- an older stamp, the last stamp, or a new one
+abbrev pub replied : Opened → Last → Reference → Reply × Reference
+replied o last m =
+    if nat_lt o.stamp last.stamp then (Old, m)
+    else (if nat_eq o.stamp last.stamp then (last.reply, m) else renewed o (answered o.client o.op m.records) m)
+
+abbrev pub executed : Reference → Opened → Reply × Reference
+executed m o = replied o (slice_index_or m.last o.client unasked) m
+
+-- the answer to an entry, which may be null, and the reference after it
+abbrev pub step : Reference → Option Opened → Answer × Reference
+step m None = (record { client = 0; stamp = 0; reply = Null }, m)
+step m (Some o) = (record { client = o.client; stamp = o.stamp; reply = (executed m o).0 }, (executed m o).1)
+
+-- the answers to a list, in order
+abbrev pub answers : Reference → List (Option Opened) → List Answer
+answers m [] = []
+answers m (e ∷ entries) = (step m e).0 ∷ answers (step m e).1 entries
+
+-- the reference after a list
+abbrev pub folded : Reference → List (Option Opened) → Reference
+folded m [] = m
+folded m (e ∷ entries) = folded (step m e).1 entries
