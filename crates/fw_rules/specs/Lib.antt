@@ -1,0 +1,4 @@
+pub mod Agree
+pub mod Speeches
+pub mod World
+pub mod Outcome

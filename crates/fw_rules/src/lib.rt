@@ -1,0 +1,12 @@
+//! The rules of the four roles, the run of a schedule under them, and what it agreed, accepted and let down.
+#![tactic(auto)]
+
+ghost use Rattle.std.specs.Prelude.{◌≡◌, List, []};
+ghost use Rattle.fw_base.specs.declared.params.Params.{Params};
+ghost use Rattle.fw_trace.specs.Trace.{nothing};
+ghost use Rattle.fw_rules.specs.World.{trace_after};
+
+/// Before the first event nothing was sent or taken.
+pub fn law_nothing()
+    ensures { (p : Params) → trace_after p [] ≡ nothing }
+{}
