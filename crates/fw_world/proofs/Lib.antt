@@ -1,0 +1,4 @@
+pub mod Places
+pub mod Events
+pub mod Counting
+pub mod OwnRules
