@@ -1,5 +1,6 @@
 -- What the program answers.
 use Rattle.std.specs.Prelude.{◌≡◌, ℕ, ◌⊎◌, ◌++◌, ◌∷◌, [], List, Option, Some, codes, IfSome}
+use Rattle.fw_base.specs.Faults.{Rose}
 use Rattle.fw_base.specs.Sink.{AppendsFront}
 use Rattle.fw_sched.specs.declared.plan.Plan.{Plan}
 use Rattle.fw_sched.specs.Document.{IsDocument}
@@ -59,6 +60,12 @@ later_line = codes "fault later\n"
 abbrev pub Reports : Option (List ℕ) → List ℕ → Type 0
 Reports left text = (bytes : List ℕ) × IsReplayed bytes text × IfSome left (λ all. all ≡ bytes)
 
--- the text of an outcome of the call, given what the source had left
-abbrev pub IsOutcomeText : Option (List ℕ) → List ℕ → Type 0
-IsOutcomeText left text = (text ≡ usage_line) ⊎ (text ≡ read_line) ⊎ (text ≡ later_line) ⊎ Reports left text
+-- the text of the outcome of a call with these words, at a source that had this left and of which the count of faults was
+-- and is this: the usage line for other words, and for a replay the line of a failed read, the line of an input that is
+-- no document, or the report
+abbrev pub IsOutcomeText : List (List ℕ) → Option (List ℕ) → ℕ → ℕ → List ℕ → Type 0
+IsOutcomeText words left before after text =
+    ((¬ IsReplay words) × (text ≡ usage_line))
+    ⊎ (IsReplay words × Rose before after × (text ≡ read_line))
+    ⊎ (IsReplay words × IfSome left IsNoDocument × (text ≡ later_line))
+    ⊎ (IsReplay words × Reports left text)

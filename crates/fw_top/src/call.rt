@@ -1,4 +1,4 @@
-ghost use Rattle.std.specs.Prelude.{◌≡◌, ◌⊎◌, ◌↔◌, ◌++◌, ◌^◌, ◌<◌, ◌≤◌, ℕ, List, Some, IsTrue, IsNone, IfSome, IfOk, IfErr, OnOk, IsErrOf, codes, map};
+ghost use Rattle.std.specs.Prelude.{◌≡◌, ◌⊎◌, ◌↔◌, ◌++◌, [], ◌^◌, ◌<◌, ◌≤◌, ℕ, List, Some, IsTrue, IsNone, IfSome, IfOk, IfErr, OnOk, IsErrOf, codes, map};
 ghost use Rattle.std.specs.String.{string_bytes};
 ghost use Rattle.fw_base.specs.Faults.{Rose};
 ghost use Rattle.fw_base.specs.Source.{ReadsUpTo};
@@ -66,6 +66,7 @@ fn report_of(alloc: Global, bytes: &[u8]) -> Result<Bytes, NoReport>
 /// The report of the document that the source gives.
 fn report_from<S: Source>(alloc: Global, source: &mut S) -> Result<Bytes, NoReport>
     ensures ok { IfOk result (λ text. Reports (S.left source.old) text) }
+    ensures end { IfOk result (λ _. IfSome (S.left source.old) (λ _. S.left source.new ≡ Some [])) }
     ensures later { IsErrOf result NoReport.Later → IfSome (S.left source.old) IsNoDocument }
     ensures fault { IsErrOf result NoReport.Fault → Rose (S.faults source.old) (S.faults source.new) }
     ensures most { IfSome (S.left source.old) (λ all. ReadsUpTo 65537 all (S.left source.new)) }
@@ -112,6 +113,7 @@ pub fn firewall<S: Source, K: Sink, L: Link>(
     ensures accepted { result ≡ Status.Ok → IfSome (S.left source.old) AcceptsOnlyAnswers }
     ensures certificates { result ≡ Status.Ok → IfSome (S.left source.old) LetsDownOnlyCertificates }
 
+    ensures read_to_the_end { result ≡ Status.Ok → IfSome (S.left source.old) (λ _. S.left source.new ≡ Some []) }
     ensures replayed_words { result ≡ Status.Ok → IsReplay (map string_bytes words.now) }
 
     ensures usage { result ≡ Status.Usage → ¬ IsReplay (map string_bytes words.now) }
@@ -125,7 +127,9 @@ pub fn firewall<S: Source, K: Sink, L: Link>(
     ensures read_fault_text { result ≡ Status.ReadFault → Appends (K.written sink.old) read_line (K.written sink.new) }
 
     ensures write_fault { result ≡ Status.WriteFault → Rose (K.faults sink.old) (K.faults sink.new) }
-    ensures write_fault_text { result ≡ Status.WriteFault → (text : List ℕ) × IsOutcomeText (S.left source.old) text × AppendsPart (K.written sink.old) text (K.written sink.new) }
+    ensures write_fault_text { result ≡ Status.WriteFault → (text : List ℕ)
+        × IsOutcomeText (map string_bytes words.now) (S.left source.old) (S.faults source.old) (S.faults source.new) text
+        × AppendsPart (K.written sink.old) text (K.written sink.new) }
 
     ensures memory { result ≡ Status.Memory → K.written sink.new ≡ K.written sink.old }
 
