@@ -1,5 +1,10 @@
+pub mod Lists
+pub mod Numbers
 pub mod Sizes
+pub mod Checks
 pub mod Seats
+pub mod Names
+pub mod Places
 pub mod Faults
 pub mod Source
 pub mod Sink

@@ -20,12 +20,22 @@ fits p (Exec j) = nat_lt j (executors p)
 fits p (Filter r c) = nat_lt r (width p) && nat_lt c (width p)
 fits p (Client c) = nat_lt c p.clients
 
--- the seat's place among all: agreement nodes, executors, filters row by row, clients
+-- where the filters begin in the order of all seats, where the clients do, and how many seats there are
+abbrev pub filters_from : Params → ℕ
+filters_from p = agreements p + executors p
+
+abbrev pub clients_from : Params → ℕ
+clients_from p = filters_from p + width p * width p
+
+abbrev pub seats : Params → ℕ
+seats p = clients_from p + p.clients
+
+-- the seat's place in that order: agreement nodes, executors, filters row by row, clients
 abbrev pub seat_index : Params → Seat → ℕ
 seat_index p (Agree i) = i
 seat_index p (Exec j) = agreements p + j
-seat_index p (Filter r c) = agreements p + executors p + r * width p + c
-seat_index p (Client c) = agreements p + executors p + width p * width p + c
+seat_index p (Filter r c) = filters_from p + r * width p + c
+seat_index p (Client c) = clients_from p + c
 
 -- whether a frame may pass between two seats
 abbrev pub linked : Params → Seat → Seat → Bool

@@ -1,5 +1,7 @@
-ghost use Rattle.std.specs.Prelude.{◌≡◌, IsTrue, ◌↔◌};
-ghost use Rattle.fw_base.specs.Sizes.{accepted};
+ghost use Rattle.std.specs.Prelude.{◌≡◌, ◌↔◌, IsTrue, IsOk, IfOk, IfErr, None, Some};
+ghost use Rattle.fw_base.specs.Checks.{fault_of};
+ghost use Rattle.fw_base.specs.Seats.{seats};
+ghost use Rattle.fw_base.specs.Sizes.{accepted, agreements, executors, width, quorum};
 
 /// The sizes of a deployment: the faults that it bears of each kind, and its limits.
 #[derive(Clone, Copy, Debug, PartialEq, Eq)]
@@ -14,26 +16,103 @@ pub struct Params {
     pub pipe: u32,
 }
 
+/// Why a deployment can't have these sizes.
+#[derive(Clone, Copy, Debug, PartialEq, Eq)]
+pub enum ParamFault {
+    /// This field, from 0 in their order, is out of its limit.
+    Field(u32),
+    /// So many keys of one-time signatures are more than there may be.
+    TooManyKeys(u32),
+}
+
 impl Params {
+    /// The same sizes, if a deployment may have them, and else the first fault.
+    pub fn check(self) -> Result<Params, ParamFault>
+        ensures ok { IfOk result (λ same. (same ≡ self) × (fault_of self ≡ None)) }
+        ensures err { IfErr result (λ fault. fault_of self ≡ Some fault) }
+        ensures accepted { IsOk result ↔ IsTrue (accepted self) }
+    {
+        if self.f > 3 {
+            return Err(ParamFault::Field(0));
+        }
+        if self.g > 3 {
+            return Err(ParamFault::Field(1));
+        }
+        if self.h > 3 {
+            return Err(ParamFault::Field(2));
+        }
+        if self.numbers < 1 || self.numbers > 64 {
+            return Err(ParamFault::Field(3));
+        }
+        if self.views < 1 || self.views > 8 {
+            return Err(ParamFault::Field(4));
+        }
+        if self.clients < 1 || self.clients > 8 {
+            return Err(ParamFault::Field(5));
+        }
+        if self.stamps < 1 || self.stamps > 16 {
+            return Err(ParamFault::Field(6));
+        }
+        if self.pipe < 1 || self.pipe > self.numbers {
+            return Err(ParamFault::Field(7));
+        }
+        if self.clients * self.stamps > self.numbers {
+            return Err(ParamFault::Field(3));
+        }
+        let agreements = 3 * self.f + 1;
+        let votes = self.views * self.numbers * agreements;
+        let keys = 2 * votes + 2 * (self.views * agreements) + self.clients * self.stamps;
+        if keys > 4096 {
+            return Err(ParamFault::TooManyKeys(keys));
+        }
+        Ok(self)
+    }
+
     /// Whether a deployment may have these sizes.
     pub fn are_accepted(&self) -> bool
         ensures { result ≡ accepted self.now }
     {
-        if self.f > 3 || self.g > 3 || self.h > 3 {
-            return false;
-        }
-        if self.numbers < 1 || self.numbers > 64 || self.views < 1 || self.views > 8 {
-            return false;
-        }
-        if self.clients < 1 || self.clients > 8 || self.stamps < 1 || self.stamps > 16 {
-            return false;
-        }
-        if self.pipe < 1 || self.pipe > self.numbers || self.clients * self.stamps > self.numbers {
-            return false;
-        }
-        let agreements = 3 * self.f + 1;
-        let votes = self.views * self.numbers * agreements;
-        let changes = self.views * agreements;
-        2 * votes + 2 * changes + self.clients * self.stamps <= 4096
+        self.check().is_ok()
+    }
+
+    /// How many agreement nodes there are.
+    pub fn agreements(&self) -> u32
+        requires { IsTrue (accepted self.now) }
+        ensures { result ≡ agreements self.now }
+    {
+        3 * self.f + 1
+    }
+
+    /// How many executors there are.
+    pub fn executors(&self) -> u32
+        requires { IsTrue (accepted self.now) }
+        ensures { result ≡ executors self.now }
+    {
+        2 * self.g + 1
+    }
+
+    /// How many rows of filters there are, and how many filters in a row.
+    pub fn width(&self) -> u32
+        requires { IsTrue (accepted self.now) }
+        ensures { result ≡ width self.now }
+    {
+        self.h + 1
+    }
+
+    /// How many agreement nodes decide.
+    pub fn quorum(&self) -> u32
+        requires { IsTrue (accepted self.now) }
+        ensures { result ≡ quorum self.now }
+    {
+        2 * self.f + 1
+    }
+
+    /// How many seats there are.
+    pub fn seats(&self) -> u32
+        requires { IsTrue (accepted self.now) }
+        ensures { result ≡ seats self.now }
+    {
+        let width = self.width();
+        self.agreements() + self.executors() + width * width + self.clients
     }
 }
