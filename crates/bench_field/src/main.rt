@@ -1,0 +1,166 @@
+//! Products, combined replies and split bytes, many at a time, for `checks/field` and `bench/field`.
+#![tactic(auto)]
+
+ghost use Rattle.std.specs.Prelude.{◌≡◌, ◌<◌, ◌≤◌, length, All};
+ghost use Rattle.fw_shamir.specs.Polynomial.{AreDistinct};
+
+use fw_shamir::{Weights, gf_mul, split};
+use std::alloc::Global;
+use std::env;
+use std::io::{self, BufWriter, Write};
+use std::process::ExitCode;
+use std::rt::Env;
+
+/// What the words ask for.
+#[derive(Clone, Copy)]
+enum Task {
+    Products,
+    Multiply(u32),
+    CombineTwo(u32),
+    CombineFour(u32),
+    Split(u32),
+}
+
+impl Task {
+    /// The task that the words name.
+    fn from_words(words: &[String]) -> Option<Task> {
+        let name = words.first()?.as_str();
+        if name == "products" {
+            return Some(Task::Products);
+        }
+        let count = words.get(1)?.as_str().parse::<u32>().ok()?;
+        match name {
+            "multiply" => Some(Task::Multiply(count)),
+            "combine2" => Some(Task::CombineTwo(count)),
+            "combine4" => Some(Task::CombineFour(count)),
+            "split" => Some(Task::Split(count)),
+            _ => None,
+        }
+    }
+}
+
+/// Writes the products of each byte by all, a line for each.
+fn write_products(out: &mut impl Write) -> io::Result<()> {
+    for a in 0..=255u8 {
+        for b in 0..=255u8 {
+            write!(out, "{:02x}", gf_mul(a, b))?;
+        }
+        writeln!(out, "")?;
+    }
+    Ok(())
+}
+
+/// The sum of all bytes, without carries.
+fn sum_of(bytes: &[u8]) -> u8 {
+    let mut sum = 0;
+    for byte in bytes {
+        sum ^= *byte;
+    }
+    sum
+}
+
+/// The products of all bytes by all, so many times, each time in another order, as one byte.
+#[inline(never)]
+fn multiply(count: u32) -> u8 {
+    let mut sum = 0u8;
+    for k in 0..count {
+        let other = (k % 256) as u8;
+        for a in 0..=255u8 {
+            for b in 0..=255u8 {
+                sum ^= gf_mul(a, b ^ other);
+            }
+            sum = sum.rotate_left(1);
+        }
+    }
+    sum
+}
+
+/// A share whose bytes are the sums of this one with their indices.
+fn share_of(byte: u8) -> [u8; 8192] {
+    let mut share = [byte; 8192];
+    for k in 0..share.len() {
+        share[k] ^= (k % 256) as u8;
+    }
+    share
+}
+
+#[inline(never)]
+fn combine_once(weights: &Weights, shares: &[&[u8]], out: &mut [u8])
+    requires shares { length shares.now ≡ length weights.now }
+    requires lengths { All (λ share. length share.now ≡ length out.old) shares.now }
+{
+    weights.combine_into(shares, out)
+}
+
+/// Combines the replies of these places so many times.
+fn combine(places: &[u8], count: u32) -> u8
+    requires some { 0 < length places.now }
+    requires few { length places.now ≤ 4 }
+    requires distinct { AreDistinct places.now }
+{
+    let weights = Weights::of(places);
+    let mut first = share_of(7);
+    let second = share_of(9);
+    let third = share_of(11);
+    let fourth = share_of(13);
+    let mut out = [0; 8192];
+    let mut sum = 0;
+    for _ in 0..count {
+        first[0] = sum;
+        let shares: [&[u8]; 4] = [&first, &second, &third, &fourth];
+        combine_once(&weights, &shares[..places.len()], &mut out);
+        sum ^= out[0] ^ out[8191];
+    }
+    sum ^ sum_of(&out)
+}
+
+#[inline(never)]
+fn split_once(coefficients: &[u8], shares: &mut [u8])
+    requires { length shares.old ≤ 255 }
+{
+    split(coefficients, shares)
+}
+
+/// Splits a byte with four coefficients to seven shares so many times.
+fn split_many(count: u32) -> u8 {
+    let mut shares = [0; 7];
+    let mut sum = 0;
+    for k in 0..count {
+        split_once(&[(k % 256) as u8, sum, 7, 9], &mut shares);
+        sum ^= sum_of(&shares);
+    }
+    sum
+}
+
+/// The words after the program's name, of which there are none where they are no text.
+fn words(rt: &(impl Env + Alloc<A = Global>)) -> io::Result<Vec<String>> {
+    let mut words = Vec::new(rt.alloc());
+    if let Ok(all) = env::args(rt) {
+        for word in all.skip(1) {
+            words.push(word)?;
+        }
+    }
+    Ok(words)
+}
+
+fn main(rt: HostRuntime) -> io::Result<ExitCode> {
+    let words = words(&rt)?;
+    let sum = match Task::from_words(&words) {
+        Some(Task::Products) => {
+            let mut out = BufWriter::new(rt.alloc(), rt.stdout())?;
+            write_products(&mut out)?;
+            out.flush()?;
+            return Ok(ExitCode::SUCCESS);
+        }
+        Some(Task::Multiply(count)) => multiply(count),
+        Some(Task::CombineTwo(count)) => combine(&[1, 2], count),
+        Some(Task::CombineFour(count)) => combine(&[1, 2, 3, 4], count),
+        Some(Task::Split(count)) => split_many(count),
+        None => {
+            println!(rt; "words: products, or multiply, combine2, combine4 or split with a count")?;
+            return Ok(ExitCode::FAILURE);
+        }
+    };
+    println!(rt; "{sum}")?;
+    Ok(ExitCode::SUCCESS)
+}
