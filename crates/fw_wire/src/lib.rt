@@ -1,0 +1,10 @@
+//! Bytes read from the front, and bytes added at the end: numbers, the highest byte first, and parts of a known length.
+#![tactic(auto)]
+
+mod reader;
+#[cfg(test)]
+mod tests;
+mod writer;
+
+pub use reader::Reader;
+pub use writer::Writer;
