@@ -1,0 +1,8 @@
+pub mod Gathering
+pub mod Rows
+pub mod Whole
+pub mod Reading
+pub mod Lists
+pub mod Fields
+pub mod FrameFields
+pub mod Writing

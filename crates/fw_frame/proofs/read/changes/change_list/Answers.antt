@@ -1,0 +1,19 @@
+use Rattle.std.proofs.Common.{arith, ap, length, length-append}
+use Rattle.std.proofs.lemmas.List.{map_push, length-map}
+use Rattle.fw_frame.specs.Plain.{plain_change}
+use Rattle.fw_frame.proofs.Lists.{no_item, one_more, all_read}
+use Rattle.fw_frame.proofs.read.changes.change_list.Goals as goal
+
+pub returns-in_default : goal.returns-in_default
+returns-in_default c = no_item (λ x h. omega arith) c.loop.invariant.so_far (omega (arith, length-map c.loop.changes plain_change)) (rw c.in_default.is at c.in_ok-change.ensures)
+
+pub loop-preserved : goal.loop-preserved
+loop-preserved c = record {
+  count = omega (arith, simp length-append at (ap length c.in_ok-push.ensures.ok));
+  so_far =
+      rw c.in_ok-push.ensures.ok (rw (map_push plain_change c.loop.changes c.in-Some.change)
+      (one_more c.loop.invariant.so_far (omega (arith, length-map c.loop.changes plain_change)) (rw c.in-Some.is at c.in_ok-change.ensures)));
+}
+
+pub returns : goal.returns
+returns c = all_read (λ x h. omega arith) c.loop.invariant.so_far (omega (arith, length-map c.loop.changes plain_change))

@@ -1,0 +1,25 @@
+use Rattle.fw_frame.specs.Plain.{plain}
+use Rattle.fw_frame.proofs.Reading.{no_first, no_second, both, via, via_none, none_is}
+use Rattle.fw_frame.proofs.FrameFields.{vote_same}
+use Rattle.fw_frame.proofs.read.kinds.vote.Goals as goal
+
+pub returns-in_err-phase : goal.returns-in_err-phase
+returns-in_err-phase c = none_is plain c.from_residual.ensures (via_none (vote_same c.args.params.now) (no_first _ _ c.in_err-phase.ensures))
+
+pub returns-in_err-view : goal.returns-in_err-view
+returns-in_err-view c = none_is plain c.from_residual-in_err-view.ensures (via_none (vote_same c.args.params.now) (no_second c.in_ok-phase.ensures (no_first _ _ c.in_err-view.ensures)))
+
+pub returns-in_err-number : goal.returns-in_err-number
+returns-in_err-number c = none_is plain c.from_residual-in_err-number.ensures (via_none (vote_same c.args.params.now) (no_second c.in_ok-phase.ensures (no_second c.in_ok-view.ensures (no_first _ _ c.in_err-number.ensures))))
+
+pub returns-in_err-agree : goal.returns-in_err-agree
+returns-in_err-agree c = none_is plain c.from_residual-in_err-agree.ensures (via_none (vote_same c.args.params.now) (no_second c.in_ok-phase.ensures (no_second c.in_ok-view.ensures (no_second c.in_ok-number.ensures (no_first _ _ c.in_err-agree.ensures)))))
+
+pub returns-in_err-digest : goal.returns-in_err-digest
+returns-in_err-digest c = none_is plain c.from_residual-in_err-digest.ensures (via_none (vote_same c.args.params.now) (no_second c.in_ok-phase.ensures (no_second c.in_ok-view.ensures (no_second c.in_ok-number.ensures (no_second c.in_ok-agree.ensures (no_first _ _ c.in_err-digest.ensures))))))
+
+pub returns-in_err-sig : goal.returns-in_err-sig
+returns-in_err-sig c = none_is plain c.from_residual-in_err-sig.ensures (via_none (vote_same c.args.params.now) (no_second c.in_ok-phase.ensures (no_second c.in_ok-view.ensures (no_second c.in_ok-number.ensures (no_second c.in_ok-agree.ensures (no_second c.in_ok-digest.ensures c.in_err-sig.ensures))))))
+
+pub returns : goal.returns
+returns c = via (vote_same c.args.params.now) (both c.in_ok-phase.ensures (both c.in_ok-view.ensures (both c.in_ok-number.ensures (both c.in_ok-agree.ensures (both c.in_ok-digest.ensures c.in_ok-sig.ensures)))))

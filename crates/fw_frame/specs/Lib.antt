@@ -1,0 +1,8 @@
+pub mod Frames
+pub mod Plain
+pub mod Spelling
+pub mod Ranges
+pub mod Parts
+pub mod Gathered
+pub mod Reading
+pub mod Writing

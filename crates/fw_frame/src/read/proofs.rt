@@ -1,0 +1,89 @@
+ghost use Rattle.std.specs.Prelude.{◌≡◌, ◌<◌, ◌≤◌, ◌&&◌, IsTrue, IfOk, nat_eq, nat_le, option_map, map};
+ghost use Rattle.std.specs.List.{flat_map};
+ghost use Rattle.fw_base.specs.Sizes.{accepted, within, quorum};
+ghost use Rattle.fw_frame.specs.Plain.{plain_proof};
+ghost use Rattle.fw_frame.specs.Ranges.{proof_fits, proofs_fit};
+ghost use Rattle.fw_frame.specs.Reading.{Finds, list_fits};
+ghost use Rattle.fw_frame.specs.Spelling.{proof_bytes, proofs_bytes};
+
+use super::entry::entry;
+use super::fields::{at_most, below, place};
+use super::signers::signers;
+use crate::{Proof, ProofList};
+use fw_base::{Memory, Params};
+use fw_wire::Reader;
+use std::alloc::Global;
+
+/// A proof in a change to a view, of a number from one on.
+fn proof<'a>(
+    alloc: Global,
+    params: &Params,
+    reader: &mut Reader<'a>,
+    view: u32,
+    least: u32,
+) -> Result<Option<Proof<'a>>, Memory>
+    requires accepted { IsTrue (accepted params.now) }
+    requires view { 0 < view }
+    requires least { 1 ≤ least }
+    ensures { IfOk result (λ found. Finds proof_bytes (λ q. nat_le least q.number && proof_fits params.now view q) reader.old (option_map plain_proof found) reader.new) }
+{
+    let Some(earlier) = below(reader, view) else {
+        return Ok(None);
+    };
+    let Some(number) = place(params, reader, least) else {
+        return Ok(None);
+    };
+    let Some(entry) = entry(params, reader) else {
+        return Ok(None);
+    };
+    let Some(signers) = signers(alloc, params, reader)? else {
+        return Ok(None);
+    };
+    Ok(Some(Proof {
+        view: earlier,
+        number,
+        entry,
+        signers,
+    }))
+}
+
+/// Proofs, ascending by number.
+fn proof_list<'a>(
+    alloc: Global,
+    params: &Params,
+    reader: &mut Reader<'a>,
+    view: u32,
+    count: u32,
+) -> Result<Option<ProofList<'a>>, Memory>
+    requires accepted { IsTrue (accepted params.now) }
+    requires view { 0 < view }
+    ensures { IfOk result (λ found. Finds (flat_map proof_bytes) (list_fits (λ q. q.number) (proof_fits params.now view) count) reader.old (option_map (map plain_proof) found) reader.new) }
+{
+    let mut proofs = ProofList::new(alloc);
+    let mut least = 1;
+    for _ in 0..count {
+        let Some(proof) = proof(alloc, params, reader, view, least)? else {
+            return Ok(None);
+        };
+        least = proof.number + 1;
+        proofs.push(proof)?;
+    }
+    Ok(Some(proofs))
+}
+
+/// The proofs of a change to a view.
+pub fn proofs<'a>(
+    alloc: Global,
+    params: &Params,
+    reader: &mut Reader<'a>,
+    view: u32,
+) -> Result<Option<ProofList<'a>>, Memory>
+    requires accepted { IsTrue (accepted params.now) }
+    requires view { 0 < view }
+    ensures { IfOk result (λ found. Finds proofs_bytes (proofs_fit params.now view) reader.old (option_map (map plain_proof) found) reader.new) }
+{
+    let Some(count) = at_most(reader, params.numbers) else {
+        return Ok(None);
+    };
+    proof_list(alloc, params, reader, view, count)
+}
