@@ -1,0 +1,11 @@
+pub mod Each
+pub mod Fronts
+pub mod NameBytes
+pub mod Listing
+pub mod Sentences
+pub mod OpSentences
+pub mod ReplySentences
+pub mod OneOp
+pub mod OneReply
+pub mod OneSpelling
+pub mod Lengths

@@ -1,0 +1,7 @@
+use Rattle.std.proofs.Common.{sym, ◌∙◌, []}
+use Rattle.std.proofs.lemmas.List.{append-nil}
+use Rattle.fw_op.specs.Keys.{value_bytes}
+use Rattle.fw_op.proofs.reader.Reader.last_value.Goals as goal
+
+pub returns-in_default-clause-none : goal.returns-in_default-clause-none
+returns-in_default-clause-none c = λ x fits is. c.in_default.ensures.each x [] fits (is ∙ sym (append-nil (value_bytes x)))

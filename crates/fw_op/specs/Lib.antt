@@ -1,0 +1,4 @@
+pub mod Keys
+pub mod Words
+pub mod Ops
+pub mod Replies
