@@ -1,0 +1,9 @@
+pub mod Names
+pub mod Order
+pub mod Found
+pub mod Seen
+pub mod Views
+pub mod Isolated
+pub mod Done
+pub mod Told
+pub mod Built
