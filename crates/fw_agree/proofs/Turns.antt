@@ -1,7 +1,7 @@
 -- One turn of each loop: what the turns from here lead to is what the turns after this one lead to.
 use Rattle.std.proofs.Common.{◌≡◌, ℕ, zero, suc, ◌+◌, ◌-◌, ◌<◌, Bool, true, false, ◌&&◌, ◌||◌, nat_eq, nat_lt, nat_le, cond, List, [], ◌∷◌, ◌++◌, length, drop, Some, refl, ap, ap₂, sym, ◌∙◌, arith, add-one, append_assoc}
 use Rattle.std.specs.Prelude.{is_some, slice_get}
-use Rattle.fw_ref.specs.declared.ops.Answer.{Answer}
+use Rattle.fw_ref.specs.declared.asked.Answer.{Answer}
 use Rattle.fw_rules.specs.Agree.{Agreement, Out, held_at, replied_from, replied, agreed_message, goes_up}
 use Rattle.fw_agree.specs.Held.{has_number}
 

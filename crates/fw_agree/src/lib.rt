@@ -13,7 +13,8 @@ ghost use Rattle.fw_agree.specs.Standing.{Agreer, StandsFor};
 
 use fw_base::{Items, Memory, Newest, Params, Seat};
 use fw_node::{Message, Node, Outbox};
-use fw_ref::{Answer, Asked, Op};
+use fw_op::Op;
+use fw_ref::{Answer, Asked};
 use fw_trace::Input;
 use std::alloc::Global;
 use std::marker::Model;
@@ -218,7 +219,7 @@ impl Node for AgreeNode {
 mod tests {
     use super::*;
     use fw_base::Bytes;
-    use fw_ref::Reply;
+    use fw_op::Reply;
 
     const SIZES: Params = Params {
         f: 0,

@@ -3,8 +3,8 @@ use Rattle.std.specs.Prelude.{ℕ, ◌≡◌, List}
 use Rattle.fw_base.specs.declared.params.Params.{Params}
 use Rattle.fw_base.specs.declared.seat.Seat.{Seat}
 use Rattle.fw_base.specs.declared.seat.Seat.TheVariants as seats
-use Rattle.fw_ref.specs.declared.ops.Op.{Op}
-use Rattle.fw_ref.specs.declared.ops.Reply.{Reply}
+use Rattle.fw_op.specs.declared.op.Op.{Op}
+use Rattle.fw_op.specs.declared.reply.Reply.{Reply}
 use Rattle.fw_trace.specs.Client as clients
 use Rattle.fw_trace.specs.Role.{kept}
 use Rattle.fw_node.specs.declared.Message.{Message}

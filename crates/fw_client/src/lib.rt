@@ -14,7 +14,8 @@ ghost use Rattle.fw_client.specs.Standing.{Asker, StandsFor, speech};
 
 use fw_base::{Memory, Newest, Params, Seat};
 use fw_node::{Message, Node, Outbox};
-use fw_ref::{Answer, Asked, Op, Reply};
+use fw_op::{Op, Reply};
+use fw_ref::{Answer, Asked, copy_reply};
 use fw_trace::{Input, Told};
 use std::alloc::Global;
 use std::collections::VecDeque;
@@ -151,7 +152,7 @@ impl ClientNode {
         if answer.stamp as usize != self.asked.len() {
             return Ok(());
         }
-        let reply = answer.reply.copy(self.alloc)?;
+        let reply = copy_reply(self.alloc, &answer.reply)?;
         self.pending = false;
         self.accepted.push(Told {
             number,

@@ -7,7 +7,7 @@ use Rattle.std.proofs.lemmas.Option.{slice_get_within, get_or_from_slice_get}
 use Rattle.std.proofs.lemmas.Bool.{eq-eqb, ne_eqb}
 use Rattle.fw_base.specs.declared.seat.Seat.{Seat}
 use Rattle.fw_base.specs.Seats.{seat_eq}
-use Rattle.fw_ref.specs.declared.ops.Asked.{Asked}
+use Rattle.fw_ref.specs.declared.asked.Asked.{Asked}
 use Rattle.fw_trace.specs.Executor.{entry_of, sent_before}
 use Rattle.fw_trace.specs.Lists.{first_at}
 use Rattle.fw_node.specs.declared.Message.{Message}

@@ -3,7 +3,7 @@ use Rattle.std.proofs.Common.{◌≡◌, ℕ, suc, ◌+◌, Bool, true, false, L
 use Rattle.std.specs.Prelude.{is_some}
 use Rattle.std.proofs.lemmas.Bool.{false≢true}
 use Rattle.fw_base.specs.declared.seat.Seat.{Seat}
-use Rattle.fw_ref.specs.declared.ops.Asked.{Asked}
+use Rattle.fw_ref.specs.declared.asked.Asked.{Asked}
 use Rattle.fw_node.specs.declared.Message.{Message}
 use Rattle.fw_trace.specs.Executor as executors
 use Rattle.fw_rules.specs.Speeches.{executor_speech}

@@ -1,7 +1,7 @@
 ghost use Rattle.std.specs.Prelude.{◌≡◌, ◌∷◌, ◌++◌, ◌+◌, [], suc, length, is_some, Some, None, IfOk, OnOk, nat_le, ◌&&◌, if◌then◌else◌};
 ghost use Rattle.fw_base.specs.declared.params.Params.{Params};
 ghost use Rattle.fw_base.specs.declared.seat.Seat.TheVariants.{Exec};
-ghost use Rattle.fw_ref.specs.declared.ops.Op.{Op};
+ghost use Rattle.fw_op.specs.declared.op.Op.{Op};
 ghost use Rattle.fw_trace.specs.Executor as executors;
 ghost use Rattle.fw_trace.specs.Lists.{first_at};
 ghost use Rattle.fw_trace.specs.Role.{sends};
@@ -12,7 +12,8 @@ ghost use Rattle.fw_exec.specs.Standing.{StandsFor};
 use crate::lookup::{Agreements, entry_of, keep, share_of, was_told_by};
 use fw_base::{Memory, Newest, Seat};
 use fw_node::{Message, Node, Outbox};
-use fw_ref::{Asked, Op, Replica};
+use fw_op::Op;
+use fw_ref::{Asked, Replica};
 use fw_trace::Input;
 use std::alloc::Global;
 use std::marker::Model;

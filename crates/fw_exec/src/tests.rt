@@ -1,7 +1,8 @@
 use crate::ExecNode;
 use fw_base::{Bytes, Memory, Seat};
 use fw_node::{Message, Node, Outbox};
-use fw_ref::{Asked, Op, Reply};
+use fw_op::{Op, Reply};
+use fw_ref::Asked;
 use fw_trace::Input;
 use std::alloc::Global;
 use std::test::Fail;

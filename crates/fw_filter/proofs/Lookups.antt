@@ -7,7 +7,7 @@ use Rattle.std.proofs.lemmas.Option.{slice_get_within, get_or_from_slice_get}
 use Rattle.std.proofs.lemmas.Bool.{eq-eqb, ne_eqb}
 use Rattle.fw_base.specs.declared.seat.Seat.{Seat}
 use Rattle.fw_base.specs.Seats.{seat_eq}
-use Rattle.fw_ref.specs.declared.ops.Answer.{Answer}
+use Rattle.fw_ref.specs.declared.asked.Answer.{Answer}
 use Rattle.fw_trace.specs.declared.Share.{Share}
 use Rattle.fw_trace.specs.Executor.{sent_before}
 use Rattle.fw_trace.specs.Filter.{held_of, asked_at_all, has_share}

@@ -3,7 +3,7 @@ use Rattle.std.specs.Prelude.{◌≡◌, List}
 use Rattle.fw_base.specs.declared.params.Params.{Params}
 use Rattle.fw_base.specs.declared.seat.Seat.{Seat}
 use Rattle.fw_base.specs.declared.seat.Seat.TheVariants as seats
-use Rattle.fw_ref.specs.declared.ops.Answer.{Answer}
+use Rattle.fw_ref.specs.declared.asked.Answer.{Answer}
 use Rattle.fw_trace.specs.Filter as filters
 use Rattle.fw_trace.specs.Role.{kept}
 use Rattle.fw_node.specs.declared.Message.{Message}

@@ -1,7 +1,7 @@
 ghost use Rattle.std.specs.Prelude.{◌≡◌, ◌++◌, ◌∷◌, [], ℕ, Some, OnOk, not, ◌||◌};
 ghost use Rattle.fw_base.specs.declared.params.Params.{Params};
 ghost use Rattle.fw_base.specs.declared.seat.Seat.TheVariants.{Filter};
-ghost use Rattle.fw_ref.specs.declared.ops.Op.{Op};
+ghost use Rattle.fw_op.specs.declared.op.Op.{Op};
 ghost use Rattle.fw_trace.specs.Executor as executors;
 ghost use Rattle.fw_trace.specs.Filter as filters;
 ghost use Rattle.fw_trace.specs.Role.{sends};
@@ -12,7 +12,8 @@ ghost use Rattle.fw_filter.specs.Standing.{StandsFor};
 use crate::lookup::{combined, has_share, held_of, was_asked, was_asked_by};
 use fw_base::{Items, Memory, Newest, Seat};
 use fw_node::{Message, Node, Outbox};
-use fw_ref::{Answer, Op};
+use fw_op::Op;
+use fw_ref::Answer;
 use fw_trace::{Input, Share};
 use std::alloc::Global;
 use std::marker::Model;

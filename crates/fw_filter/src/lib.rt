@@ -11,7 +11,8 @@ mod tests {
     use super::*;
     use fw_base::{Bytes, Seat};
     use fw_node::{Message, Node, Outbox};
-    use fw_ref::{Answer, Asked, Op, Reply};
+    use fw_op::{Op, Reply};
+    use fw_ref::{Answer, Asked};
     use fw_trace::Input;
 
     #[test]

@@ -4,10 +4,10 @@ use Rattle.std.proofs.lemmas.Bool.{eqb-true}
 use Rattle.std.proofs.lemmas.Option.{none-some, same_Some}
 use Rattle.fw_base.specs.declared.seat.Seat.{Seat}
 use Rattle.fw_base.specs.declared.seat.Seat.TheVariants.{Agree}
-use Rattle.fw_ref.specs.declared.ops.Op.{Op}
-use Rattle.fw_ref.specs.declared.ops.Reply.{Reply}
-use Rattle.fw_ref.specs.declared.ops.Asked.{Asked}
-use Rattle.fw_ref.specs.declared.ops.Answer.{Answer}
+use Rattle.fw_op.specs.declared.op.Op.{Op}
+use Rattle.fw_op.specs.declared.reply.Reply.{Reply}
+use Rattle.fw_ref.specs.declared.asked.Asked.{Asked}
+use Rattle.fw_ref.specs.declared.asked.Answer.{Answer}
 use Rattle.fw_trace.specs.declared.Told.{Told}
 use Rattle.fw_trace.specs.declared.Input.TheVariants.{Heard, Tick, Submitted}
 use Rattle.fw_trace.specs.Role.{kept, sends}

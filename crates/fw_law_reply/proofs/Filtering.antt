@@ -4,8 +4,8 @@ use Rattle.std.proofs.lemmas.Bool.{eqb-true}
 use Rattle.std.proofs.lemmas.Option.{none-some, same_Some}
 use Rattle.fw_base.specs.declared.seat.Seat.{Seat}
 use Rattle.fw_base.specs.declared.seat.Seat.TheVariants.{Agree, Exec}
-use Rattle.fw_ref.specs.declared.ops.Asked.{Asked}
-use Rattle.fw_ref.specs.declared.ops.Answer.{Answer}
+use Rattle.fw_ref.specs.declared.asked.Asked.{Asked}
+use Rattle.fw_ref.specs.declared.asked.Answer.{Answer}
 use Rattle.fw_trace.specs.declared.Share.{Share}
 use Rattle.fw_trace.specs.declared.Input.TheVariants.{Heard, Tick, Submitted}
 use Rattle.fw_trace.specs.Role.{kept, sends}

@@ -6,7 +6,7 @@ use Rattle.fw_base.specs.declared.params.Params.{Params}
 use Rattle.fw_base.specs.declared.seat.Seat.{Seat}
 use Rattle.fw_base.specs.declared.seat.Seat.TheVariants.{Agree, Exec, Filter, Client}
 use Rattle.fw_base.specs.Seats.{below}
-use Rattle.fw_ref.specs.declared.ops.Op.{Op}
+use Rattle.fw_op.specs.declared.op.Op.{Op}
 use Rattle.fw_trace.specs.declared.Sent.{Sent}
 use Rattle.fw_trace.specs.Trace.{Trace, Event, history}
 use Rattle.fw_trace.specs.Run.{Step, run, NoLies}

@@ -3,8 +3,8 @@ use Rattle.std.proofs.Common.{ℕ, zero, suc, ◌+◌, ◌≡◌, ◌≤◌, ◌
 use Rattle.std.specs.Prelude.{slice_get}
 use Rattle.std.proofs.lemmas.Bool.{eqb-true, eqb-false}
 use Rattle.std.proofs.lemmas.Option.{none-some, same_Some, slice_get_within}
-use Rattle.fw_ref.specs.declared.ops.Asked.{Asked}
-use Rattle.fw_ref.specs.declared.ops.Answer.{Answer}
+use Rattle.fw_ref.specs.declared.asked.Asked.{Asked}
+use Rattle.fw_ref.specs.declared.asked.Answer.{Answer}
 use Rattle.fw_ref.specs.Reference.{Reference, Opened, opened, at_start, step, answers, folded}
 use Rattle.fw_trace.specs.Lists.{numbers_from, front_of, first_at, greatest_of}
 use Rattle.fw_trace.proofs.Words.{In}

@@ -2,10 +2,10 @@
 use Rattle.std.specs.Prelude.{ℕ, ◌≡◌, ◌≤◌, List, length, Some, Contains}
 use Rattle.fw_base.specs.declared.params.Params.{Params}
 use Rattle.fw_base.specs.declared.seat.Seat.TheVariants.{Agree, Filter}
-use Rattle.fw_ref.specs.declared.ops.Op.{Op}
-use Rattle.fw_ref.specs.declared.ops.Reply.{Reply}
-use Rattle.fw_ref.specs.declared.ops.Asked.{Asked}
-use Rattle.fw_ref.specs.declared.ops.Answer.{Answer}
+use Rattle.fw_op.specs.declared.op.Op.{Op}
+use Rattle.fw_op.specs.declared.reply.Reply.{Reply}
+use Rattle.fw_ref.specs.declared.asked.Asked.{Asked}
+use Rattle.fw_ref.specs.declared.asked.Answer.{Answer}
 use Rattle.fw_trace.specs.declared.Told.{Told}
 use Rattle.fw_trace.specs.declared.Sent.{Sent}
 use Rattle.fw_trace.specs.Trace.{Trace}

@@ -3,7 +3,7 @@
 
 ghost use Rattle.std.specs.Prelude.{◌≡◌, List, Ok};
 ghost use Rattle.fw_base.specs.declared.params.Params.{Params};
-ghost use Rattle.fw_ref.specs.declared.ops.Op.{Op};
+ghost use Rattle.fw_op.specs.declared.op.Op.{Op};
 ghost use Rattle.fw_node.specs.declared.Message.{Message};
 ghost use Rattle.fw_trace.specs.Trace.{Trace, Event};
 ghost use Rattle.fw_trace.specs.Run.{Step, run, NoLies};

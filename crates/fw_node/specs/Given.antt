@@ -1,6 +1,6 @@
 -- An input that a node is lent, as its history keeps it.
 use Rattle.std.specs.Borrow.{Bor}
-use Rattle.fw_ref.specs.declared.ops.Op.{Op}
+use Rattle.fw_op.specs.declared.op.Op.{Op}
 use Rattle.fw_trace.specs.declared.Input.{Input}
 use Rattle.fw_trace.specs.declared.Input.TheVariants.{Heard, Tick, Submitted}
 use Rattle.fw_node.specs.declared.Message.{Message}

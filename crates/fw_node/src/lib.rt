@@ -4,7 +4,8 @@
 ghost use Rattle.std.specs.Prelude.{◌≡◌, IfOk};
 
 use fw_base::{Items, Memory, Seat};
-use fw_ref::{Answer, Asked, Op};
+use fw_op::Op;
+use fw_ref::{Answer, Asked};
 use fw_trace::Input;
 use std::alloc::Global;
 

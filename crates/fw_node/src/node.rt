@@ -6,7 +6,7 @@ ghost use Rattle.fw_node.specs.Given.{Taken, taken};
 
 use crate::{Message, Outbox};
 use fw_base::Memory;
-use fw_ref::Op;
+use fw_op::Op;
 use fw_trace::Input;
 
 /// A node, seen by the histories that it stands for. In a history the newest input stands first.

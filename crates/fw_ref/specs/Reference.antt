@@ -1,13 +1,13 @@
 -- The reference: one store that answers the requests of one list, each client's stamp once.
 use Rattle.std.specs.Prelude.{ℕ, nat_eq, nat_lt, List, [], ◌∷◌, replicate, Option, Some, None, slice_index_or, slice_set, if◌then◌else◌}
-use Rattle.fw_ref.specs.declared.ops.Op.{Op}
-use Rattle.fw_ref.specs.declared.ops.Reply.{Reply}
-use Rattle.fw_ref.specs.declared.ops.Reply.TheVariants.{Old, Bad, Null}
-use Rattle.fw_ref.specs.declared.ops.Answer.{Answer}
-use Rattle.fw_ref.specs.declared.ops.Asked.{Asked}
-use Rattle.fw_ref.specs.declared.store.Start.{Start}
+use Rattle.fw_op.specs.declared.op.Op.{Op}
+use Rattle.fw_op.specs.declared.reply.Reply.{Reply}
+use Rattle.fw_op.specs.declared.reply.Reply.TheVariants.{Old, Bad, Null}
+use Rattle.fw_ref.specs.declared.asked.Answer.{Answer}
+use Rattle.fw_ref.specs.declared.asked.Asked.{Asked}
+use Rattle.fw_op.specs.declared.start.Start.{Start}
 use Rattle.fw_ref.specs.declared.replica.Last.{Last}
-use Rattle.fw_ref.specs.Store.{applied}
+use Rattle.fw_store.specs.Store.{applied}
 
 -- the records, and per client the last stamp and the reply to it
 pub record Reference : Type 0 where

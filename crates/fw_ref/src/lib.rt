@@ -1,12 +1,10 @@
-//! The service: operations on records and their words, the store, and the reference that answers one list of requests.
+//! The service: requests, a store that answers each stamp of a client once, and the reference that answers one list.
 #![tactic(auto)]
 
-mod ops;
+mod asked;
 mod replica;
-mod store;
 #[cfg(test)]
 mod tests;
 
-pub use ops::{Answer, Asked, Op, Reply};
+pub use asked::{Answer, Asked, copy_reply};
 pub use replica::{Last, Replica, reference};
-pub use store::{Start, Store};

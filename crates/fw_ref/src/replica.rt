@@ -1,8 +1,11 @@
 ghost use Rattle.std.specs.Prelude.{◌≡◌, ◌++◌, List, map, replicate, length, Some, slice_index_or, slice_set, IfOk, OnOk, OnErr};
 ghost use Rattle.fw_ref.specs.Reference.{Reference, Opened, opened, unasked, at_start, executed, step, answers};
 
-use crate::{Answer, Asked, Op, Reply, Store};
+use crate::asked::copy_reply;
+use crate::{Answer, Asked};
 use fw_base::{Items, Memory};
+use fw_op::{Op, Reply};
+use fw_store::Store;
 use std::alloc::Global;
 use std::marker::Model;
 
@@ -39,7 +42,7 @@ impl Replica {
     {
         Ok(Replica {
             alloc,
-            store: Store::new(alloc),
+            store: Store::new(alloc, &[])?,
             last: none_asked(alloc)?,
         })
     }
@@ -119,7 +122,7 @@ fn last_reply(alloc: Global, last: &[Last], client: u32) -> Result<Reply, Memory
 {
     match last.get(client as usize) {
         None => Ok(Reply::Null),
-        Some(last) => last.reply.copy(alloc),
+        Some(last) => copy_reply(alloc, &last.reply),
     }
 }
 
@@ -135,7 +138,7 @@ fn renew(
 {
     let kept = Last {
         stamp,
-        reply: reply.copy(alloc)?,
+        reply: copy_reply(alloc, reply)?,
     };
     if (client as usize) < last.len() {
         last[client as usize] = kept;

@@ -1,5 +1,6 @@
-use crate::{Asked, Op, Reply, reference};
+use crate::{Asked, reference};
 use fw_base::{Bytes, Items, Memory};
+use fw_op::{Op, Reply};
 use std::alloc::Global;
 use std::test::Fail;
 
@@ -22,6 +23,9 @@ fn shown(reply: &Reply) -> &[u8] {
         Reply::Done => b"done",
         Reply::Value { value } => value.items(),
         Reply::Absent => b"none",
+        Reply::Differs => b"differs",
+        Reply::Count { count: _ } => b"count",
+        Reply::Keys { names: _ } => b"keys",
         Reply::Bad => b"bad",
         Reply::Old => b"old",
         Reply::Null => b"null",

@@ -1,7 +1,9 @@
 -- The text of a report.
 use Rattle.std.specs.Prelude.{ℕ, Bool, List, [], ◌∷◌, ◌++◌, codes, decimal, if◌then◌else◌}
 use Rattle.std.specs.List.{flat_map}
-use Rattle.fw_ref.specs.Words.{sentence, client_word, op_words, reply_words}
+use Rattle.fw_op.specs.Words.{sentence, client_word}
+use Rattle.fw_op.specs.Ops.{op_words}
+use Rattle.fw_op.specs.Replies.{reply_words}
 use Rattle.fw_report.specs.declared.summary.Said.{Said}
 use Rattle.fw_report.specs.declared.summary.Said.TheVariants as said
 use Rattle.fw_report.specs.declared.summary.AgreedLine.{AgreedLine}

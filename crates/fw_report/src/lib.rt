@@ -12,7 +12,7 @@ pub use summary::{AcceptLine, AgreedLine, CrossLine, Said, Summary};
 mod tests {
     use super::*;
     use fw_base::{Bytes, Items, Memory};
-    use fw_ref::{Op, Reply};
+    use fw_op::{Op, Reply};
     use std::alloc::Global;
     use std::test::Fail;
 

@@ -2,28 +2,29 @@ ghost use Rattle.std.specs.Prelude.{◌≡◌, ℕ, [], ◌∷◌, ◌++◌, IfO
 ghost use Rattle.std.specs.List.{flat_map};
 ghost use Rattle.fw_report.specs.Report.{line, agreed_line, accept_line, cross_line, yes_or_no, report_text};
 
-use crate::words::{add_client, add_number, add_reply, add_said, add_word, add_yes_or_no};
+use crate::words::{add_reply, add_said, add_yes_or_no};
 use crate::{AcceptLine, AgreedLine, CrossLine, Summary};
 use fw_base::{Bytes, Memory};
+use fw_op::{add_client, add_number, add_word};
 use std::alloc::Global;
 
-fn add_agreed(text: &mut Bytes, agreed: &AgreedLine) -> Result<(), Memory>
+fn add_agreed(alloc: Global, text: &mut Bytes, agreed: &AgreedLine) -> Result<(), Memory>
     ensures ok { OnOk result (text.new ≡ text.old ++ agreed_line agreed.now) }
 {
     text.append(b"agreed")?;
     add_number(text, agreed.number)?;
-    add_said(text, agreed.client, agreed.stamp, &agreed.said)?;
+    add_said(alloc, text, agreed.client, agreed.stamp, &agreed.said)?;
     text.push(b'\n')
 }
 
-fn add_accepted(text: &mut Bytes, accepted: &AcceptLine) -> Result<(), Memory>
+fn add_accepted(alloc: Global, text: &mut Bytes, accepted: &AcceptLine) -> Result<(), Memory>
     ensures ok { OnOk result (text.new ≡ text.old ++ accept_line accepted.now) }
 {
     text.append(b"accept")?;
     add_client(text, accepted.client)?;
     add_number(text, accepted.stamp)?;
     add_number(text, accepted.number)?;
-    add_reply(text, &accepted.reply)?;
+    add_reply(alloc, text, &accepted.reply)?;
     text.push(b'\n')
 }
 
@@ -37,20 +38,20 @@ fn add_cross(text: &mut Bytes, cross: &CrossLine) -> Result<(), Memory>
     text.push(b'\n')
 }
 
-fn add_all_agreed(text: &mut Bytes, lines: &[AgreedLine]) -> Result<(), Memory>
+fn add_all_agreed(alloc: Global, text: &mut Bytes, lines: &[AgreedLine]) -> Result<(), Memory>
     ensures ok { OnOk result (text.new ≡ text.old ++ flat_map agreed_line lines.now) }
 {
     for agreed in lines {
-        add_agreed(text, agreed)?;
+        add_agreed(alloc, text, agreed)?;
     }
     Ok(())
 }
 
-fn add_all_accepted(text: &mut Bytes, lines: &[AcceptLine]) -> Result<(), Memory>
+fn add_all_accepted(alloc: Global, text: &mut Bytes, lines: &[AcceptLine]) -> Result<(), Memory>
     ensures ok { OnOk result (text.new ≡ text.old ++ flat_map accept_line lines.now) }
 {
     for accepted in lines {
-        add_accepted(text, accepted)?;
+        add_accepted(alloc, text, accepted)?;
     }
     Ok(())
 }
@@ -96,8 +97,8 @@ pub fn report(alloc: Global, summary: &Summary) -> Result<Bytes, Memory>
     ensures { IfOk result (λ text. text ≡ report_text summary.now) }
 {
     let mut text = Bytes::new(alloc);
-    add_all_agreed(&mut text, summary.agreed.items())?;
-    add_all_accepted(&mut text, summary.accepted.items())?;
+    add_all_agreed(alloc, &mut text, summary.agreed.items())?;
+    add_all_accepted(alloc, &mut text, summary.accepted.items())?;
     add_all_cross(&mut text, summary.cross.items())?;
     add_count(&mut text, b"waiting", summary.waiting)?;
     add_rest(&mut text, summary.rest)?;

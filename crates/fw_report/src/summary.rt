@@ -1,5 +1,5 @@
 use fw_base::Items;
-use fw_ref::{Op, Reply};
+use fw_op::{Op, Reply};
 
 /// What stands at a number of the agreed list.
 #[derive(Debug, Drop)]

@@ -2,15 +2,15 @@
 use Rattle.std.specs.Prelude.{ℕ, suc, zero, ◌+◌, true, false, ◌&&◌, nat_lt, nat_le, List, [], ◌∷◌, ◌++◌, length, Option, Some, None, if◌then◌else◌, is_some, slice_get}
 use Rattle.fw_base.specs.declared.seat.Seat.{Seat}
 use Rattle.fw_base.specs.declared.seat.Seat.TheVariants.{Filter, Client}
-use Rattle.fw_ref.specs.declared.ops.Asked.{Asked}
-use Rattle.fw_ref.specs.declared.ops.Answer.{Answer}
+use Rattle.fw_ref.specs.declared.asked.Asked.{Asked}
+use Rattle.fw_ref.specs.declared.asked.Answer.{Answer}
 use Rattle.fw_trace.specs.declared.Input.TheVariants.{Heard, Tick, Submitted}
 use Rattle.fw_trace.specs.Lists.{first_at}
 use Rattle.fw_trace.specs.Role.{Role}
 use Rattle.fw_node.specs.declared.Message.{Message}
 use Rattle.fw_node.specs.declared.Message.TheVariants as message
 use Rattle.fw_node.specs.Given.{Taken}
-use Rattle.fw_ref.specs.declared.ops.Op.{Op}
+use Rattle.fw_op.specs.declared.op.Op.{Op}
 
 abbrev pub Out : Type 0
 Out = List (Seat × Message)

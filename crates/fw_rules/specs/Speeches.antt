@@ -2,11 +2,11 @@
 use Rattle.std.specs.Prelude.{ℕ, true, nat_eq, List, [], ◌∷◌, Option, Some, None, if◌then◌else◌}
 use Rattle.fw_base.specs.declared.seat.Seat.{Seat}
 use Rattle.fw_base.specs.declared.seat.Seat.TheVariants.{Agree, Exec, Filter}
-use Rattle.fw_ref.specs.declared.ops.Op.{Op}
-use Rattle.fw_ref.specs.declared.ops.Reply.{Reply}
-use Rattle.fw_ref.specs.declared.ops.Reply.TheVariants.{Null}
-use Rattle.fw_ref.specs.declared.ops.Asked.{Asked}
-use Rattle.fw_ref.specs.declared.ops.Answer.{Answer}
+use Rattle.fw_op.specs.declared.op.Op.{Op}
+use Rattle.fw_op.specs.declared.reply.Reply.{Reply}
+use Rattle.fw_op.specs.declared.reply.Reply.TheVariants.{Null}
+use Rattle.fw_ref.specs.declared.asked.Asked.{Asked}
+use Rattle.fw_ref.specs.declared.asked.Answer.{Answer}
 use Rattle.fw_ref.specs.Reference.{Reference, at_start, step, opened}
 use Rattle.fw_trace.specs.declared.Told.{Told}
 use Rattle.fw_trace.specs.declared.Share.{Share}

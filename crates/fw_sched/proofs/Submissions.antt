@@ -11,13 +11,13 @@ use Rattle.toml.specs.Data.{Data, string, Items, item, Members}
 use Rattle.toml.specs.View.{view, items_view}
 use Rattle.toml.specs.declared.value.Value.{Value}
 use Rattle.fw_base.specs.declared.params.Params.{Params}
-use Rattle.fw_ref.specs.declared.ops.Op.{Op}
-use Rattle.fw_ref.specs.Words.{op_fits}
+use Rattle.fw_op.specs.declared.op.Op.{Op}
+use Rattle.fw_op.specs.Words.{words_of}
+use Rattle.fw_op.specs.Ops.{op_fits}
 use Rattle.fw_sched.specs.declared.plan.Step.{Step}
 use Rattle.fw_sched.specs.declared.plan.Step.TheVariants.{Submit, Flush}
 use Rattle.fw_sched.specs.Document.{HasSteps, AreAllowed, texts}
-use Rattle.fw_sched.specs.Steps.{step_text, step_words, step_fits, submissions_of}
-use Rattle.fw_sched.specs.Words.{words_of}
+use Rattle.fw_sched.specs.Steps.{is_put_or_get, step_text, step_words, step_fits, submissions_of}
 use Rattle.fw_sched.proofs.Sentences.{words_of_step}
 use Rattle.fw_sched.proofs.Tables.{small_sizes}
 
@@ -64,7 +64,7 @@ none_beyond : (p : Params) (c : ℕ) (steps : List Step) → p.clients ≤ c →
 none_beyond p c [] beyond fits = refl
 none_beyond p c (Submit client op ∷ steps) beyond fits =
     let both = and_parts (step_fits p (Submit client op)) (list_all (step_fits p) steps) fits in
-    let below : client < p.clients = ltb-true client p.clients (and_parts (nat_lt client p.clients) (op_fits p.clients op) both.0).0 in
+    let below : client < p.clients = ltb-true client p.clients (and_parts (nat_lt client p.clients) (op_fits p.clients op && is_put_or_get op) both.0).0 in
     let other : nat_eq client c ≡ false = ne_eqb client c (λ e. omega arith) in
     rw other (none_beyond p c steps beyond both.1)
 none_beyond p c (Flush most ∷ steps) beyond fits =
@@ -84,8 +84,8 @@ unlike m b op e =
 same_submissions : (p : Params) (c : ℕ) (x y : Step) (xs ys : List Step) → p.clients < 2 ^ 32 → step_fits p x ≡ true → step_fits p y ≡ true → step_text x ≡ step_text y → submissions_of c xs ≡ submissions_of c ys → submissions_of c (x ∷ xs) ≡ submissions_of c (y ∷ ys)
 same_submissions p c (Submit a v) (Submit b w) xs ys small fit_x fit_y e later =
     let words : step_words (Submit a v) ≡ step_words (Submit b w) = sym (words_of_step p (Submit a v) small fit_x) ∙ ap words_of e ∙ words_of_step p (Submit b w) small fit_y in
-    let below_a : a < p.clients = ltb-true a p.clients (and_parts (nat_lt a p.clients) (op_fits p.clients v) fit_x).0 in
-    let below_b : b < p.clients = ltb-true b p.clients (and_parts (nat_lt b p.clients) (op_fits p.clients w) fit_y).0 in
+    let below_a : a < p.clients = ltb-true a p.clients (and_parts (nat_lt a p.clients) (op_fits p.clients v && is_put_or_get v) fit_x).0 in
+    let below_b : b < p.clients = ltb-true b p.clients (and_parts (nat_lt b p.clients) (op_fits p.clients w && is_put_or_get w) fit_y).0 in
     let digits : decimal a ≡ decimal b = cc in
     let same : a ≡ b = decimal_injective a b (omega arith) (omega arith) digits in
     rw (same, later) refl

@@ -6,7 +6,6 @@ mod plan;
 mod read;
 mod schedule;
 mod steps;
-mod words;
 
 pub use plan::{Plan, Step};
 pub use read::read_plan;
@@ -14,7 +13,7 @@ pub use read::read_plan;
 #[cfg(test)]
 mod tests {
     use super::*;
-    use fw_ref::Op;
+    use fw_op::Op;
     use std::test::Fail;
 
     const DOCUMENT: &str =
@@ -51,6 +50,9 @@ mod tests {
             ("alpha", "abcdefghijklmno-", true),
             ("one", long.as_str(), true),
             ("put alpha one", "get c1 alpha", true),
+            ("put alpha one", "get c2 alpha", false),
+            ("put alpha one", "del alpha", false),
+            ("put alpha one", "count", false),
             ("\"submit c0 put alpha one\", \"flush 100\"", "", true),
             ("put alpha", "put  alpha", false),
             ("flush 100", "flush 0100", false),

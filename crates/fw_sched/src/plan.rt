@@ -1,5 +1,5 @@
 use fw_base::{Items, Params};
-use fw_ref::Op;
+use fw_op::Op;
 
 /// A step of a schedule.
 #[derive(Debug, Drop)]

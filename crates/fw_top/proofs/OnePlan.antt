@@ -6,15 +6,15 @@ use Rattle.std.proofs.lemmas.Fmt.{decimal_injective}
 use Rattle.std.proofs.lemmas.Option.{same_Some}
 use Rattle.toml.specs.Data.{Members}
 use Rattle.fw_base.specs.declared.params.Params.{Params}
-use Rattle.fw_ref.specs.declared.ops.Op.{Op}
-use Rattle.fw_ref.specs.declared.ops.Op.TheVariants.{Put, Get}
-use Rattle.fw_ref.specs.Words.{op_fits, op_words, client_word, is_key}
+use Rattle.fw_op.specs.declared.op.Op.{Op}
+use Rattle.fw_op.specs.Ops.{op_fits, op_words}
+use Rattle.fw_op.specs.Words.{client_word, words_of}
+use Rattle.fw_op.proofs.OneOp.{same_op_words}
 use Rattle.fw_sched.specs.declared.plan.Plan.{Plan}
 use Rattle.fw_sched.specs.declared.plan.Step.{Step}
 use Rattle.fw_sched.specs.declared.plan.Step.TheVariants.{Submit, Flush}
-use Rattle.fw_sched.specs.Steps.{step_text, step_words, step_fits}
+use Rattle.fw_sched.specs.Steps.{step_text, step_words, step_fits, is_put_or_get}
 use Rattle.fw_sched.specs.Document.{IsDocument, Says, HasSeed, texts}
-use Rattle.fw_sched.specs.Words.{words_of}
 use Rattle.fw_sched.proofs.Sentences.{words_of_step}
 use Rattle.fw_sched.proofs.Tables.{same_sizes, small_sizes}
 
@@ -32,24 +32,18 @@ below p c small fits = let inside : c < p.clients = ltb-true c p.clients fits in
 client_same : (c d : ℕ) → c < 2 ^ 64 → d < 2 ^ 64 → client_word c ≡ client_word d → c ≡ d
 client_same c d small little e = decimal_injective c d small little (let digits : decimal c ≡ decimal d = cc in digits)
 
--- operations of one spelling
-op_same : (p : Params) (x y : Op) → p.clients < 2 ^ 32 → op_fits p.clients x ≡ true → op_fits p.clients y ≡ true → op_words x ≡ op_words y → x ≡ y
-op_same p (Put key value) (Put other thing) small fx fy e = ap₂ Put (let k : key ≡ other = cc in k) (let v : value ≡ thing = cc in v)
-op_same p (Get owner key) (Get whose other) small fx fy e =
-    let one = below p owner small (left_true (nat_lt owner p.clients) (is_key key) fx) in
-    let two = below p whose small (left_true (nat_lt whose p.clients) (is_key other) fy) in
-    ap₂ Get (client_same owner whose one two (let w : client_word owner ≡ client_word whose = cc in w)) (let k : key ≡ other = cc in k)
-op_same p (Put key value) (Get whose other) small fx fy e = absurd (let letters : 112 ≡ 103 = ap (λ (ws : List (List ℕ)). get_or (get_or ws 0 []) 0 0) e in omega arith)
-op_same p (Get owner key) (Put other thing) small fx fy e = absurd (let letters : 103 ≡ 112 = ap (λ (ws : List (List ℕ)). get_or (get_or ws 0 []) 0 0) e in omega arith)
+-- the operation of a step fits
+op_fitting : (p : Params) (c : ℕ) (x : Op) → step_fits p (Submit c x) ≡ true → op_fits p.clients x ≡ true
+op_fitting p c x fits = left_true (op_fits p.clients x) (is_put_or_get x) (right_true (nat_lt c p.clients) (op_fits p.clients x && is_put_or_get x) fits)
 
 -- steps of one spelling, by their words
 words_same : (p : Params) (s t : Step) → p.clients < 2 ^ 32 → step_fits p s ≡ true → step_fits p t ≡ true → step_words s ≡ step_words t → s ≡ t
 words_same p (Submit c x) (Submit d y) small fs ft e =
-    let one = below p c small (left_true (nat_lt c p.clients) (op_fits p.clients x) fs) in
-    let two = below p d small (left_true (nat_lt d p.clients) (op_fits p.clients y) ft) in
+    let one = below p c small (left_true (nat_lt c p.clients) (op_fits p.clients x && is_put_or_get x) fs) in
+    let two = below p d small (left_true (nat_lt d p.clients) (op_fits p.clients y && is_put_or_get y) ft) in
     let ops : op_words x ≡ op_words y = cc in
     ap₂ Submit (client_same c d one two (let w : client_word c ≡ client_word d = cc in w))
-    (op_same p x y small (right_true (nat_lt c p.clients) (op_fits p.clients x) fs) (right_true (nat_lt d p.clients) (op_fits p.clients y) ft) ops)
+    (same_op_words p.clients x y small (op_fitting p c x fs) (op_fitting p d y ft) ops)
 words_same p (Flush m) (Flush n) small fs ft e =
     let one : m ≤ 1000000 = leb-true m 1000000 (right_true (nat_le 1 m) (nat_le m 1000000) fs) in
     let two : n ≤ 1000000 = leb-true n 1000000 (right_true (nat_le 1 n) (nat_le n 1000000) ft) in

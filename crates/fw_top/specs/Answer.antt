@@ -4,7 +4,7 @@ use Rattle.fw_base.specs.Faults.{Rose}
 use Rattle.fw_base.specs.Sink.{AppendsFront}
 use Rattle.fw_sched.specs.declared.plan.Plan.{Plan}
 use Rattle.fw_sched.specs.Document.{IsDocument}
-use Rattle.fw_ref.specs.declared.ops.Op.{Op}
+use Rattle.fw_op.specs.declared.op.Op.{Op}
 use Rattle.fw_node.specs.declared.Message.{Message}
 use Rattle.fw_trace.specs.Trace.{Trace}
 use Rattle.fw_law_reply.specs.Laws.{AcceptsAnswers, LetsDownCertificates}

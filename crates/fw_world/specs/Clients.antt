@@ -2,7 +2,7 @@
 use Rattle.std.specs.Prelude.{◌≡◌, ℕ, List, Some, slice_get}
 use Rattle.fw_base.specs.declared.params.Params.{Params}
 use Rattle.fw_base.specs.declared.seat.Seat.TheVariants.{Client}
-use Rattle.fw_ref.specs.declared.ops.Op.{Op}
+use Rattle.fw_op.specs.declared.op.Op.{Op}
 use Rattle.fw_trace.specs.Trace.{Trace, history}
 use Rattle.fw_node.specs.declared.Message.{Message}
 use Rattle.fw_world.specs.Nodes.{Stands}

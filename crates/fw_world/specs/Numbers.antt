@@ -1,6 +1,6 @@
 -- The numbers of agreed messages.
 use Rattle.std.specs.Prelude.{ℕ, cond, nat_eq, List, Option, None, Some}
-use Rattle.fw_ref.specs.declared.ops.Asked.{Asked}
+use Rattle.fw_ref.specs.declared.asked.Asked.{Asked}
 use Rattle.fw_trace.specs.declared.Sent.{Sent}
 use Rattle.fw_trace.specs.Lists.{greatest_of}
 use Rattle.fw_trace.specs.Run.{agreed_list}

@@ -1,6 +1,6 @@
 -- What a replay of a plan gives.
 use Rattle.std.specs.Prelude.{◌≡◌, ℕ, List}
-use Rattle.fw_ref.specs.declared.ops.Op.{Op}
+use Rattle.fw_op.specs.declared.op.Op.{Op}
 use Rattle.fw_sched.specs.declared.plan.Plan.{Plan}
 use Rattle.fw_trace.specs.Trace.{Trace}
 use Rattle.fw_node.specs.declared.Message.{Message}

@@ -1,11 +1,12 @@
 -- Whole runs, computed from the definitions alone.
 use Rattle.std.specs.Prelude.{ℕ, ◌≡◌, List, [], ◌∷◌, Option, Some, None, Ok, Err, Result, codes, refl}
 use Rattle.std.specs.Fmt.{digits}
+use Rattle.fw_store.specs.Store.{name_cmp}
 use Rattle.fw_base.specs.declared.params.Params.{Params}
 use Rattle.fw_sched.specs.declared.plan.Step.{Step}
 use Rattle.fw_sched.specs.declared.plan.Step.TheVariants.{Submit, Flush}
-use Rattle.fw_ref.specs.declared.ops.Op.{Op}
-use Rattle.fw_ref.specs.declared.ops.Op.TheVariants.{Put, Get}
+use Rattle.fw_op.specs.declared.op.Op.{Op}
+use Rattle.fw_op.specs.declared.op.Op.TheVariants.{Put, Get}
 use Rattle.fw_trace.specs.Trace.{Trace}
 use Rattle.fw_trace.specs.Run.{run}
 use Rattle.fw_node.specs.declared.Message.{Message}
@@ -50,5 +51,5 @@ absent_record = refl
 
 pub put_and_get : reported (put_alpha ∷ get_alpha 0 ∷ Flush 100 ∷ [])
     ≡ Some (codes "agreed 1 c0 1 put alpha one\nagreed 2 c0 2 get c0 alpha\naccept c0 1 1 done\naccept c0 2 2 value one\ncross 0 1 1\ncross 0 2 1\nwaiting 0\nrest yes\nview 0\nevents 14 frames 12\n")
-unfolding digits
+unfolding digits name_cmp
 put_and_get = refl

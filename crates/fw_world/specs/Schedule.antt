@@ -1,7 +1,7 @@
 -- The run of a plan.
 use Rattle.std.specs.Prelude.{◌≡◌, List, map, Ok}
 use Rattle.fw_base.specs.declared.seat.Seat.TheVariants.{Client}
-use Rattle.fw_ref.specs.declared.ops.Op.{Op}
+use Rattle.fw_op.specs.declared.op.Op.{Op}
 use Rattle.fw_sched.specs.declared.plan.Plan.{Plan}
 use Rattle.fw_sched.specs.declared.plan.Step.{Step}
 use Rattle.fw_sched.specs.declared.plan.Step.TheVariants.{Submit, Flush}

@@ -1,7 +1,7 @@
 -- What is seen of a world of nodes, of any four kinds.
 use Rattle.std.specs.Prelude.{◌≡◌, Bool, false, List, length}
 use Rattle.fw_base.specs.declared.params.Params.{Params}
-use Rattle.fw_ref.specs.declared.ops.Op.{Op}
+use Rattle.fw_op.specs.declared.op.Op.{Op}
 use Rattle.fw_trace.specs.declared.Logged.{Logged}
 use Rattle.fw_trace.specs.Trace.{Trace, Rules, history}
 use Rattle.fw_trace.specs.Run as runs

@@ -2,9 +2,9 @@
 use Rattle.std.specs.Prelude.{ℕ, ◌+◌, ◌-◌, Bool, true, false, List, [], ◌∷◌, ◌++◌, map, length, Option, Some, None, if◌then◌else◌, count_by, max, ◌==◌}
 use Rattle.std.specs.Option.{option_to_list}
 use Rattle.fw_base.specs.declared.params.Params.{Params}
-use Rattle.fw_ref.specs.declared.ops.Op.{Op}
-use Rattle.fw_ref.specs.declared.ops.Reply.{Reply}
-use Rattle.fw_ref.specs.declared.ops.Asked.{Asked}
+use Rattle.fw_op.specs.declared.op.Op.{Op}
+use Rattle.fw_op.specs.declared.reply.Reply.{Reply}
+use Rattle.fw_ref.specs.declared.asked.Asked.{Asked}
 use Rattle.fw_trace.specs.declared.Told.{Told}
 use Rattle.fw_trace.specs.declared.Sent.{Sent}
 use Rattle.fw_trace.specs.declared.Logged.{Logged}

@@ -1,7 +1,7 @@
 ghost use Rattle.std.specs.Prelude.{◌≡◌, ◌++◌, ◌<◌, ◌^◌, ℕ, List, IfOk, OnOk, Some, length, map, slice_get};
 ghost use Rattle.fw_base.specs.declared.params.Params.{Params};
 ghost use Rattle.fw_base.specs.declared.seat.Seat.TheVariants as seats;
-ghost use Rattle.fw_ref.specs.declared.ops.Op.{Op};
+ghost use Rattle.fw_op.specs.declared.op.Op.{Op};
 ghost use Rattle.fw_node.specs.declared.Message.{Message};
 ghost use Rattle.fw_trace.specs.Lists.{numbers_from};
 ghost use Rattle.fw_trace.specs.Trace.{Trace, history};
@@ -11,7 +11,7 @@ ghost use Rattle.fw_world.specs.Clients.{ClientsStand};
 use fw_base::{Items, Memory};
 use fw_client::ClientNode;
 use fw_node::Node;
-use fw_ref::Reply;
+use fw_op::Reply;
 use fw_report::AcceptLine;
 use fw_trace::Told;
 use std::alloc::Global;

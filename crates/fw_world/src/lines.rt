@@ -8,7 +8,8 @@ ghost use Rattle.fw_world.specs.Numbers.{asked_as, number_of, greatest_agreed, a
 
 use fw_base::{Items, Memory, Newest};
 use fw_node::Message;
-use fw_ref::{Asked, Op};
+use fw_op::Op;
+use fw_ref::Asked;
 use fw_report::{AgreedLine, Said};
 use fw_trace::{Input, Logged, Sent};
 use std::alloc::Global;

@@ -10,7 +10,7 @@ ghost use Rattle.fw_base.specs.declared.seat.Seat.{Seat};
 
 use fw_base::{Items, Memory, Newest, Params, Seat};
 use fw_node::{Given, Message, Outbox};
-use fw_ref::Op;
+use fw_op::Op;
 use fw_trace::{Input, Logged, Sent};
 
 /// An input that is kept, lent to a node.

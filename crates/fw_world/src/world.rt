@@ -19,7 +19,7 @@ use crate::pool::{lent, next, rests, send};
 use fw_base::{Items, Memory, Newest, Params, Seat};
 use fw_client::ClientNode;
 use fw_node::{Message, Node, Outbox};
-use fw_ref::Op;
+use fw_op::Op;
 use fw_report::Summary;
 use fw_sched::Step;
 use fw_trace::{Input, Logged, Sent};

@@ -1,6 +1,6 @@
 use Rattle.std.proofs.Common.{◌≡◌, ◌++◌, ◌-◌, length}
 use Rattle.fw_base.specs.declared.params.Params.{Params}
-use Rattle.fw_ref.specs.declared.ops.Op.{Op}
+use Rattle.fw_op.specs.declared.op.Op.{Op}
 use Rattle.fw_node.specs.declared.Message.{Message}
 use Rattle.fw_trace.specs.Lists.{numbers_from}
 use Rattle.fw_trace.specs.Trace.{Trace}

@@ -1,5 +1,5 @@
 use Rattle.std.proofs.Common.{◌≡◌, ℕ, drop, false, Ok}
-use Rattle.fw_ref.specs.declared.ops.Op.{Op}
+use Rattle.fw_op.specs.declared.op.Op.{Op}
 use Rattle.fw_trace.specs.Trace.{Trace}
 use Rattle.fw_trace.specs.Run as runs
 use Rattle.fw_node.specs.declared.Message.{Message}
