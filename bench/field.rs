@@ -1,25 +1,28 @@
-// The yardstick of bench/field: the same work in plain Rust, by tables. Words as those of crates/bench_field, without
-// `products`; it prints the same sum.
+// The yardstick of bench/field: the same work in plain Rust, in the same way (products by one table of powers and one of
+// logarithms, replies by steps that are the same for all bytes). Words as those of crates/bench_field, without `products`;
+// it prints the same sum.
 use std::env;
 
 struct Field {
-    powers: [u8; 512],
-    logarithms: [u8; 256],
+    powers: [u8; 1023],
+    logarithms: [u16; 256],
 }
 
+/// The powers of 3 up to 510, and zeros behind them; the power that each byte is, and 511 for 0.
 const fn field() -> Field {
-    let mut powers = [0; 512];
-    let mut logarithms = [0; 256];
+    let mut powers = [0; 1023];
+    let mut logarithms = [511; 256];
     let mut power = 1u8;
     let mut k = 0;
     while k < 255 {
         powers[k] = power;
         powers[k + 255] = power;
-        logarithms[power as usize] = k as u8;
+        logarithms[power as usize] = k as u16;
         let twice = (power << 1) ^ if power >= 128 { 0x1b } else { 0 };
         power ^= twice;
         k += 1;
     }
+    powers[510] = 1;
     Field { powers, logarithms }
 }
 
@@ -27,9 +30,6 @@ static FIELD: Field = field();
 
 #[inline]
 fn gf_mul(a: u8, b: u8) -> u8 {
-    if a == 0 || b == 0 {
-        return 0;
-    }
     FIELD.powers[FIELD.logarithms[a as usize] as usize + FIELD.logarithms[b as usize] as usize]
 }
 
@@ -38,14 +38,31 @@ fn gf_inv(a: u8) -> u8 {
     FIELD.powers[255 - FIELD.logarithms[a as usize] as usize]
 }
 
-/// A table of products for each place.
+#[inline]
+fn twice(a: u8) -> u8 {
+    (a % 128 * 2) ^ (a / 128 * 0x1b)
+}
+
+/// The product by steps that are the same for all bytes.
+#[inline]
+fn mul_by_steps(a: u8, b: u8) -> u8 {
+    let (mut sum, mut term, mut rest) = (0, a, b);
+    for _ in 0..8 {
+        sum ^= term & (rest % 2 * 255);
+        term = twice(term);
+        rest /= 2;
+    }
+    sum
+}
+
+/// A weight for each place.
 struct Weights {
-    tables: Vec<[u8; 256]>,
+    weights: Vec<u8>,
 }
 
 impl Weights {
     fn of(places: &[u8]) -> Weights {
-        let mut tables = Vec::new();
+        let mut weights = Vec::new();
         for &x in places {
             let mut weight = 1;
             for &y in places {
@@ -53,20 +70,16 @@ impl Weights {
                     weight = gf_mul(weight, gf_mul(y, gf_inv(y ^ x)));
                 }
             }
-            let mut table = [0; 256];
-            for (k, product) in table.iter_mut().enumerate() {
-                *product = gf_mul(weight, k as u8);
-            }
-            tables.push(table);
+            weights.push(weight);
         }
-        Weights { tables }
+        Weights { weights }
     }
 
     fn combine_into(&self, shares: &[&[u8]], out: &mut [u8]) {
         out.fill(0);
-        for (table, share) in self.tables.iter().zip(shares) {
+        for (&weight, share) in self.weights.iter().zip(shares) {
             for (byte, &value) in out.iter_mut().zip(*share) {
-                *byte ^= table[value as usize];
+                *byte ^= mul_by_steps(weight, value);
             }
         }
     }

@@ -4,12 +4,10 @@
 ghost use Rattle.std.specs.Prelude.{◌≡◌, ◌<◌, ◌≤◌, length, All};
 ghost use Rattle.fw_shamir.specs.Polynomial.{AreDistinct};
 
+use fw_args::words;
 use fw_shamir::{Weights, gf_mul, split};
-use std::alloc::Global;
-use std::env;
 use std::io::{self, BufWriter, Write};
 use std::process::ExitCode;
-use std::rt::Env;
 
 /// What the words ask for.
 #[derive(Clone, Copy)]
@@ -132,19 +130,10 @@ fn split_many(count: u32) -> u8 {
     sum
 }
 
-/// The words after the program's name, of which there are none where they are no text.
-fn words(rt: &(impl Env + Alloc<A = Global>)) -> io::Result<Vec<String>> {
-    let mut words = Vec::new(rt.alloc());
-    if let Ok(all) = env::args(rt) {
-        for word in all.skip(1) {
-            words.push(word)?;
-        }
-    }
-    Ok(words)
-}
-
 fn main(rt: HostRuntime) -> io::Result<ExitCode> {
-    let words = words(&rt)?;
+    let Ok(words) = words(&rt) else {
+        return Ok(ExitCode::from(10));
+    };
     let sum = match Task::from_words(&words) {
         Some(Task::Products) => {
             let mut out = BufWriter::new(rt.alloc(), rt.stdout())?;

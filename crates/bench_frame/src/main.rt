@@ -1,32 +1,23 @@
-//! A bench of frames: reads the frame that the input is, and writes it again, or its texts, or reads it many times.
+//! A bench of frames: reads the frame that the input is, and writes it again, or its texts; or reads it, or hashes its texts,
+//! as many times as a word says.
 #![tactic(auto)]
 
 mod work;
 
-use fw_base::{ReaderSource, WriterSink, read_all, write_all};
-use std::alloc::Global;
+use fw_args::words;
+use fw_io::{ReaderSource, WriterSink, read_all, write_all};
+use std::io;
 use std::process::ExitCode;
-use std::rt::Env;
-use std::{env, io};
 use work::answer;
 
 /// How many bytes the input has at most.
 const LIMIT: usize = 33_554_432;
 
-/// The words after the program's name.
-fn words(rt: &(impl Env + Alloc<A = Global>)) -> io::Result<Vec<String>> {
-    let mut words = Vec::new(rt.alloc());
-    if let Ok(all) = env::args(rt) {
-        for word in all.skip(1) {
-            words.push(word)?;
-        }
-    }
-    Ok(words)
-}
-
 fn main(rt: HostRuntime) -> io::Result<ExitCode> {
     let alloc = rt.alloc();
-    let words = words(&rt)?;
+    let Ok(words) = words(&rt) else {
+        return Ok(ExitCode::from(10));
+    };
     let mut source = ReaderSource::new(rt.stdin());
     let Ok(bytes) = read_all(alloc, &mut source, LIMIT) else {
         return Ok(ExitCode::from(2));

@@ -1,10 +1,13 @@
+//! What the words ask for, done on the bytes of the input.
+
 ghost use Rattle.std.specs.Prelude.{◌≡◌, ◌≤◌, IsTrue, IsSome, IfOk, IfSome};
 ghost use Rattle.fw_base.specs.Sizes.{accepted};
 ghost use Rattle.fw_frame.specs.Frames.{PlainFrame};
 ghost use Rattle.fw_frame.specs.Ranges.{IsFrame};
 
-use fw_base::{Bytes, Memory, Params};
+use fw_base::Params;
 use fw_frame::{Frame, Text};
+use fw_list::{Bytes, Memory};
 use std::alloc::Global;
 
 /// The status where the words are wrong.
@@ -99,35 +102,69 @@ fn times_read(alloc: Global, params: &Params, bytes: &[u8], times: u32) -> Resul
     Ok(found)
 }
 
+/// How many texts a frame has, hashed so many times.
+fn times_hashed(alloc: Global, params: &Params, bytes: &[u8], times: u32) -> Result<usize, Memory>
+    requires { IsTrue (accepted params.now) }
+{
+    let Some(frame) = Frame::read(alloc, params, bytes)? else {
+        return Ok(0);
+    };
+    let mut count = 0;
+    for _ in 0..times {
+        count = frame.texts(alloc)?.len();
+    }
+    Ok(count)
+}
+
+/// A text that is written, and the status.
+fn told(alloc: Global, text: &str, status: u8) -> Result<(Bytes, u8), Memory> {
+    Ok((Bytes::copy_of(alloc, text.as_bytes())?, status))
+}
+
+/// What is written of the frame that the bytes are, and the status.
+fn once(alloc: Global, word: &str, sizes: &[String], bytes: &[u8]) -> Result<(Bytes, u8), Memory> {
+    let Some(params) = params(sizes) else {
+        return told(alloc, "usage\n", USAGE);
+    };
+    let found = match word {
+        "again" => again(alloc, &params, bytes)?,
+        "texts" => texts(alloc, &params, bytes)?,
+        _ => return told(alloc, "usage\n", USAGE),
+    };
+    match found {
+        Some(written) => Ok((written, 0)),
+        None => told(alloc, "no frame\n", NO_FRAME),
+    }
+}
+
+/// What is written of work that is done so many times, and the status.
+fn many(
+    alloc: Global,
+    word: &str,
+    times: &str,
+    sizes: &[String],
+    bytes: &[u8],
+) -> Result<(Bytes, u8), Memory> {
+    let (Some(times), Some(params)) = (number(times), params(sizes)) else {
+        return told(alloc, "usage\n", USAGE);
+    };
+    let text = if word == "hash" {
+        let count = times_hashed(alloc, &params, bytes, times)?;
+        format!(in alloc; "hashed {count} texts {times} times\n")?
+    } else {
+        let found = times_read(alloc, &params, bytes, times)?;
+        format!(in alloc; "read {found} times, {} bytes\n", bytes.len())?
+    };
+    told(alloc, text.as_str(), 0)
+}
+
 /// What is written, and the status.
 pub fn answer(alloc: Global, words: &[String], bytes: &[u8]) -> Result<(Bytes, u8), Memory> {
     match words {
-        [word, sizes @ ..] if word.as_str() == "again" => {
-            let Some(params) = params(sizes) else {
-                return Ok((Bytes::copy_of(alloc, b"usage\n")?, USAGE));
-            };
-            match again(alloc, &params, bytes)? {
-                Some(written) => Ok((written, 0)),
-                None => Ok((Bytes::copy_of(alloc, b"no frame\n")?, NO_FRAME)),
-            }
+        [word, times, sizes @ ..] if word.as_str() == "read" || word.as_str() == "hash" => {
+            many(alloc, word.as_str(), times.as_str(), sizes, bytes)
         }
-        [word, sizes @ ..] if word.as_str() == "texts" => {
-            let Some(params) = params(sizes) else {
-                return Ok((Bytes::copy_of(alloc, b"usage\n")?, USAGE));
-            };
-            match texts(alloc, &params, bytes)? {
-                Some(lines) => Ok((lines, 0)),
-                None => Ok((Bytes::copy_of(alloc, b"no frame\n")?, NO_FRAME)),
-            }
-        }
-        [word, times, sizes @ ..] if word.as_str() == "read" => {
-            let (Some(times), Some(params)) = (number(times.as_str()), params(sizes)) else {
-                return Ok((Bytes::copy_of(alloc, b"usage\n")?, USAGE));
-            };
-            let found = times_read(alloc, &params, bytes, times)?;
-            let text = format!(in alloc; "read {found} times, {} bytes\n", bytes.len())?;
-            Ok((Bytes::copy_of(alloc, text.as_bytes())?, 0))
-        }
-        _ => Ok((Bytes::copy_of(alloc, b"usage\n")?, USAGE)),
+        [word, sizes @ ..] => once(alloc, word.as_str(), sizes, bytes),
+        _ => told(alloc, "usage\n", USAGE),
     }
 }

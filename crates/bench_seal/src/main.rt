@@ -4,12 +4,11 @@
 
 ghost use Rattle.std.specs.Prelude.{◌≤◌, length};
 
+use fw_args::words;
 use fw_digest::{digest, hmac};
 use fw_seal::{Body, BodyKey, Direction, seal, unseal};
-use std::alloc::Global;
+use std::io;
 use std::process::ExitCode;
-use std::rt::Env;
-use std::{env, io};
 
 /// The first four bytes as a number.
 fn front(code: &[u8; 32]) -> u32 {
@@ -100,17 +99,10 @@ fn checksum(job: &[String]) -> Option<u32> {
     }
 }
 
-/// The words after the program's name.
-fn words(rt: &(impl Env + Alloc<A = Global>)) -> io::Result<Vec<String>> {
-    let mut words = Vec::new(rt.alloc());
-    for word in env::args(rt)?.skip(1) {
-        words.push(word)?;
-    }
-    Ok(words)
-}
-
 fn main(rt: HostRuntime) -> io::Result<ExitCode> {
-    let words = words(&rt)?;
+    let Ok(words) = words(&rt) else {
+        return Ok(ExitCode::from(10));
+    };
     for job in words.chunks(3) {
         match checksum(job) {
             Some(sum) => println!(rt; "{sum}")?,

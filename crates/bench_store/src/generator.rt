@@ -1,3 +1,5 @@
+//! The numbers that choose the operations.
+
 ghost use Rattle.std.specs.Prelude.{◌<◌};
 
 /// Numbers that look random, by a linear congruence.

@@ -1,3 +1,5 @@
+//! A sum over the replies.
+
 ghost use Rattle.std.specs.Prelude.{◌<◌};
 
 use fw_op::{Names, Reply};

@@ -1,8 +1,10 @@
+//! Many operations, one after another.
+
 ghost use Rattle.std.specs.Prelude.{◌<◌};
 
 use crate::generator::Generator;
 use crate::sum::Sum;
-use fw_base::{Bytes, Memory};
+use fw_list::{Bytes, Memory};
 use fw_op::Op;
 use fw_store::Store;
 use std::alloc::Global;

@@ -1,25 +1,18 @@
--- One turn of each loop: what the turns from here lead to is what the turns after this one lead to.
+-- What is held, and one turn of each loop: what the turns from here lead to is what the turns after this one lead to.
 use Rattle.std.proofs.Common.{◌≡◌, ℕ, zero, suc, ◌+◌, ◌-◌, ◌<◌, Bool, true, false, ◌&&◌, ◌||◌, nat_eq, nat_lt, nat_le, cond, List, [], ◌∷◌, ◌++◌, length, drop, Some, refl, ap, ap₂, sym, ◌∙◌, arith, add-one, append_assoc}
 use Rattle.std.specs.Prelude.{is_some, slice_get}
+use Rattle.std.specs.List.{list_any}
 use Rattle.fw_ref.specs.declared.asked.Answer.{Answer}
 use Rattle.fw_rules.specs.Agree.{Agreement, Out, held_at, replied_from, replied, agreed_message, goes_up}
-use Rattle.fw_agree.specs.Held.{has_number}
 
-first_or_rest : (b : Bool) (x : Answer) (held : List (ℕ × Answer)) (n : ℕ) → is_some (cond b (Some x) (held_at held n)) ≡ b || is_some (held_at held n)
-first_or_rest true x held n = refl
-first_or_rest false x held n = refl
-
-held-drop : (held : List (ℕ × Answer)) (k n : ℕ) → is_some (held_at (drop k held) n) ≡ has_number n (slice_get held k) || is_some (held_at (drop (suc k) held) n)
-held-drop [] zero n = refl
-held-drop [] (suc k) n = refl
-held-drop (x ∷ held) zero n = first_or_rest (nat_eq x.0 n) x.1 held n
-held-drop (x ∷ held) (suc k) n = held-drop held k n
-
-pub held-found : (held : List (ℕ × Answer)) (k n : ℕ) → has_number n (slice_get held k) ≡ true → is_some (held_at (drop k held) n) ≡ true
-held-found held k n e = held-drop held k n ∙ ap (λ (b : Bool). b || is_some (held_at (drop (suc k) held) n)) e
-
-pub held-passed : (held : List (ℕ × Answer)) (k n : ℕ) → has_number n (slice_get held k) ≡ false → is_some (held_at (drop k held) n) ≡ is_some (held_at (drop (k + 1) held) n)
-held-passed held k n e = rw add-one (held-drop held k n ∙ ap (λ (b : Bool). b || is_some (held_at (drop (suc k) held) n)) e)
+-- a reply of a number is held if one of them has it
+pub any_held : (held : List (ℕ × Answer)) (n : ℕ) → list_any (λ (h : ℕ × Answer). nat_eq h.0 n) held ≡ is_some (held_at held n)
+any_held [] n = refl
+any_held (x ∷ held) n = by (nat_eq x.0 n) (any_held held n)
+  where
+    by : (b : Bool) → list_any (λ (h : ℕ × Answer). nat_eq h.0 n) held ≡ is_some (held_at held n) → (b || list_any (λ (h : ℕ × Answer). nat_eq h.0 n) held) ≡ is_some (cond b (Some x.1) (held_at held n))
+    by true e = refl
+    by false e = e
 
 replied-more : (rest n : ℕ) (held : List (ℕ × Answer)) → is_some (held_at held (n + 1)) ≡ true → replied_from (suc rest) n held ≡ replied_from rest (n + 1) held
 replied-more rest n held e = rw (e, replied_from) refl

@@ -2,17 +2,18 @@
 //! and hands each first reply to its client.
 #![tactic(auto)]
 
-ghost use Rattle.std.specs.Prelude.{◌≡◌, ◌+◌, ◌++◌, ◌&&◌, List, [], ◌∷◌, length, is_some, slice_get, IfOk, OnOk, nat_lt, nat_le};
+ghost use Rattle.std.specs.Prelude.{◌≡◌, ◌+◌, ◌++◌, ◌&&◌, List, [], ◌∷◌, length, is_some, slice_get, reverse, OnOk, nat_eq, nat_lt, nat_le};
+ghost use Rattle.std.specs.List.{list_any};
 ghost use Rattle.fw_base.specs.declared.seat.Seat.TheVariants.{Agree, Filter};
 ghost use Rattle.fw_trace.specs.Role.{sends};
 ghost use Rattle.fw_node.specs.declared.Message.TheVariants.{Reply};
 ghost use Rattle.fw_node.specs.Given.{taken};
 ghost use Rattle.fw_rules.specs.Agree as agree;
-ghost use Rattle.fw_agree.specs.Held.{has_number};
 ghost use Rattle.fw_agree.specs.Standing.{Agreer, StandsFor};
 
-use fw_base::{Items, Memory, Newest, Params, Seat};
-use fw_node::{Message, Node, Outbox};
+use fw_base::{Params, Seat};
+use fw_list::{Items, Memory, Newest};
+use fw_node::{Message, Node, Outbox, number_after};
 use fw_op::Op;
 use fw_ref::{Answer, Asked};
 use fw_trace::Input;
@@ -40,36 +41,18 @@ impl Model for AgreeNode {
     ghost view = { λ n. record { pipe = n.pipe; keeps = record { given = n.given; up = n.up; held = n.held } } };
 }
 
-/// The number after so many.
-fn number_after(count: usize) -> Result<u32, Memory>
-    ensures { IfOk result (λ number. number ≡ count + 1) }
+/// Whether one of these replies has this number.
+fn is_any_held(held: &[(u32, Answer)], number: usize) -> bool
+    ensures { result ≡ list_any (λ pair. nat_eq pair.0 number) (reverse held.now) }
 {
-    match u32::try_from(count) {
-        Ok(number) if number < u32::MAX => Ok(number + 1),
-        _ => Err(Memory),
-    }
+    held.iter().rev().any(|pair| pair.0 as usize == number)
 }
 
 /// Whether a reply of this number is held.
 fn is_held(held: &Held, number: usize) -> bool
     ensures { result ≡ is_some (agree.held_at held.now number) }
 {
-    for k in 0..held.len() {
-        if is_number_at(held, k, number) {
-            return true;
-        }
-    }
-    false
-}
-
-/// Whether the reply at a place, the newest at 0, has this number.
-fn is_number_at(held: &Held, k: usize, number: usize) -> bool
-    ensures { result ≡ has_number number (slice_get held.now k) }
-{
-    match held.at(k) {
-        Some(pair) => pair.0 as usize == number,
-        None => false,
-    }
+    is_any_held(held.oldest_first(), number)
 }
 
 /// The greatest number up to which all replies are held.
@@ -212,58 +195,5 @@ impl Node for AgreeNode {
 
     fn take(&mut self, input: Input<&Message, &Op>, out: &mut Outbox) -> Result<(), Memory> {
         self.next(input, out)
-    }
-}
-
-#[cfg(test)]
-mod tests {
-    use super::*;
-    use fw_base::Bytes;
-    use fw_op::Reply;
-
-    const SIZES: Params = Params {
-        f: 0,
-        g: 0,
-        h: 0,
-        numbers: 4,
-        views: 1,
-        clients: 1,
-        stamps: 2,
-        pipe: 1,
-    };
-
-    #[test]
-    fn numbers_requests_and_sends_replies(rt: HostRuntime) {
-        let alloc = rt.alloc();
-        let mut node = AgreeNode::new(alloc, &SIZES);
-        let mut out = Outbox::new(alloc);
-        let op = Op::Get {
-            owner: 0,
-            key: Bytes::new(alloc),
-        };
-        let asked = Asked {
-            client: 0,
-            stamp: 1,
-            op,
-        };
-        let answer = Answer {
-            client: 0,
-            stamp: 1,
-            reply: Reply::Absent,
-        };
-        let request = &Message::Request { asked };
-        let reply = &Message::Reply { number: 1, answer };
-        let client = Seat::Client(0);
-        let filter = Seat::Filter(0, 0);
-        let table = [
-            (client, request, 1),
-            (client, request, 1),
-            (filter, reply, 3),
-            (filter, reply, 3),
-        ];
-        for (from, message, sent) in table {
-            assert!(rt; node.take(Input::Heard { from, message }, &mut out) == Ok(()));
-            assert_eq!(rt; out.len(), sent);
-        }
     }
 }

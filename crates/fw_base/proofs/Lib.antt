@@ -1,4 +1,3 @@
-pub mod Reading
-pub mod Writing
+-- The files of lemmas.
 pub mod Naming
 pub mod Placing

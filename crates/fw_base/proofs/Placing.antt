@@ -8,7 +8,8 @@ use Rattle.fw_base.specs.declared.slot.Slot.{Slot}
 use Rattle.fw_base.specs.declared.slot.Slot.TheVariants as slots
 use Rattle.fw_base.specs.declared.slot.Place.{Place}
 use Rattle.fw_base.specs.Places.{slot_name, slot_fits, last_point, place_fits, row_index, place_index, votes}
-use Rattle.fw_base.specs.Sizes.{agreements, executors, keys, within}
+use Rattle.fw_list.specs.Numbers.{within}
+use Rattle.fw_base.specs.Sizes.{agreements, executors, keys}
 
 -- a number in rows of a width is of one row and one column
 pub one_row : (q r q2 r2 c : ℕ) → r < c → r2 < c → q * c + r ≡ q2 * c + r2 → (q ≡ q2) × (r ≡ r2)

@@ -1,11 +1,8 @@
-pub mod Lists
-pub mod Numbers
+-- The files of definitions.
 pub mod Sizes
 pub mod Checks
 pub mod Seats
 pub mod Names
 pub mod Places
 pub mod Faults
-pub mod Source
-pub mod Sink
 pub mod Link

@@ -21,7 +21,8 @@ HeardDatagram = Option ℕ × List ℕ
 abbrev pub SentDatagram : Type 0
 SentDatagram = ℕ × List ℕ
 
--- the most bytes of a datagram that is sent
+-- the most bytes of a datagram that is sent: a piece of a frame, which has a byte for its kind, a digest of 32, an index and
+-- a count of 4 each, and at most 8,192 bytes of the frame
 abbrev pub longest_datagram : ℕ
 longest_datagram = 8233
 

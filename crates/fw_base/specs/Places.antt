@@ -6,7 +6,8 @@ use Rattle.fw_base.specs.declared.seat.Seat.TheVariants.{Agree, Client}
 use Rattle.fw_base.specs.declared.slot.Slot.{Slot}
 use Rattle.fw_base.specs.declared.slot.Slot.TheVariants as slots
 use Rattle.fw_base.specs.declared.slot.Place.{Place}
-use Rattle.fw_base.specs.Sizes.{agreements, executors, keys, within}
+use Rattle.fw_list.specs.Numbers.{within}
+use Rattle.fw_base.specs.Sizes.{agreements, executors, keys}
 
 -- the kind of a slot, and the three numbers that name it beside the kind
 pub record Name : Type 0 where

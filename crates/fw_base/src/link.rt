@@ -1,3 +1,5 @@
+//! The link to the other seats, and one to nobody.
+
 ghost use Rattle.std.specs.Prelude.{◌≡◌, ◌≤◌, ℕ, List, Option, Some, None, length, IsNone, IsSome};
 ghost use Rattle.fw_base.specs.Faults.{Counts};
 ghost use Rattle.fw_base.specs.Link.{Start, HeardDatagram, SentDatagram, longest_datagram, DoneOrRose, HeardOrRose, Starts, IsPeerOf, IsWithin, Hears, Sends, TellsNone};

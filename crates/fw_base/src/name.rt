@@ -1,10 +1,13 @@
+//! The names of seats, written and read.
+
 ghost use Rattle.std.specs.Prelude.{◌≡◌, ◌≢◌, ◌<◌, ◌≤◌, ◌+◌, ℕ, [], ◌∷◌, IsTrue, IfOk, IfSome, MatchOption, Some};
 ghost use Rattle.fw_base.specs.Sizes.{accepted};
 ghost use Rattle.fw_base.specs.Seats.{fits};
 ghost use Rattle.fw_base.specs.Names.{seat_name, short_name};
 ghost use Rattle.fw_base.specs.declared.seat.Seat.{Seat};
 
-use crate::{Bytes, Memory, Params, Seat};
+use crate::{Params, Seat};
+use fw_list::{Bytes, Memory};
 use std::alloc::Global;
 
 impl Seat {
@@ -14,24 +17,13 @@ impl Seat {
     {
         let mut name = Bytes::new(alloc);
         match self {
-            Seat::Agree(i) => {
-                name.push(b'a')?;
-                name.append_number(i)?;
-            }
-            Seat::Exec(j) => {
-                name.push(b'e')?;
-                name.append_number(j)?;
-            }
+            Seat::Agree(i) => name.append_lettered(b'a', i)?,
+            Seat::Exec(j) => name.append_lettered(b'e', j)?,
             Seat::Filter(r, c) => {
-                name.push(b'x')?;
-                name.append_number(r)?;
-                name.push(b'.')?;
-                name.append_number(c)?;
+                name.append_lettered(b'x', r)?;
+                name.append_lettered(b'.', c)?;
             }
-            Seat::Client(c) => {
-                name.push(b'c')?;
-                name.append_number(c)?;
-            }
+            Seat::Client(c) => name.append_lettered(b'c', c)?,
         }
         Ok(name)
     }

@@ -1,7 +1,12 @@
-ghost use Rattle.std.specs.Prelude.{◌≡◌, ◌↔◌, IsTrue, IsOk, IfOk, IfErr, None, Some};
+//! The sizes of a deployment, and what follows from them.
+
+ghost use Rattle.std.specs.Prelude.{◌≡◌, ◌≤◌, ◌+◌, ◌*◌, ◌↔◌, IsTrue, IsOk, IfOk, IfErr, None, Some};
 ghost use Rattle.fw_base.specs.Checks.{fault_of};
 ghost use Rattle.fw_base.specs.Seats.{seats};
 ghost use Rattle.fw_base.specs.Sizes.{accepted, agreements, executors, width, quorum};
+ghost use Rattle.fw_base.specs.declared.limits.TheConstants.{MOST_FAULTS};
+
+use crate::limits::{MOST_CLIENTS, MOST_FAULTS, MOST_KEYS, MOST_NUMBERS, MOST_STAMPS, MOST_VIEWS};
 
 /// The sizes of a deployment: the faults that it bears of each kind, and its limits.
 #[derive(Clone, Copy, Debug, PartialEq, Eq)]
@@ -32,25 +37,25 @@ impl Params {
         ensures err { IfErr result (λ fault. fault_of self ≡ Some fault) }
         ensures accepted { IsOk result ↔ IsTrue (accepted self) }
     {
-        if self.f > 3 {
+        if self.f > MOST_FAULTS {
             return Err(ParamFault::Field(0));
         }
-        if self.g > 3 {
+        if self.g > MOST_FAULTS {
             return Err(ParamFault::Field(1));
         }
-        if self.h > 3 {
+        if self.h > MOST_FAULTS {
             return Err(ParamFault::Field(2));
         }
-        if self.numbers < 1 || self.numbers > 64 {
+        if self.numbers < 1 || self.numbers > MOST_NUMBERS {
             return Err(ParamFault::Field(3));
         }
-        if self.views < 1 || self.views > 8 {
+        if self.views < 1 || self.views > MOST_VIEWS {
             return Err(ParamFault::Field(4));
         }
-        if self.clients < 1 || self.clients > 8 {
+        if self.clients < 1 || self.clients > MOST_CLIENTS {
             return Err(ParamFault::Field(5));
         }
-        if self.stamps < 1 || self.stamps > 16 {
+        if self.stamps < 1 || self.stamps > MOST_STAMPS {
             return Err(ParamFault::Field(6));
         }
         if self.pipe < 1 || self.pipe > self.numbers {
@@ -59,10 +64,10 @@ impl Params {
         if self.clients * self.stamps > self.numbers {
             return Err(ParamFault::Field(3));
         }
-        let agreements = 3 * self.f + 1;
+        let agreements = agreement_nodes(self.f);
         let votes = self.views * self.numbers * agreements;
         let keys = 2 * votes + 2 * (self.views * agreements) + self.clients * self.stamps;
-        if keys > 4096 {
+        if keys > MOST_KEYS {
             return Err(ParamFault::TooManyKeys(keys));
         }
         Ok(self)
@@ -80,7 +85,7 @@ impl Params {
         requires { IsTrue (accepted self.now) }
         ensures { result ≡ agreements self.now }
     {
-        3 * self.f + 1
+        agreement_nodes(self.f)
     }
 
     /// How many executors there are.
@@ -115,4 +120,12 @@ impl Params {
         let width = self.width();
         self.agreements() + self.executors() + width * width + self.clients
     }
+}
+
+/// How many agreement nodes bear so many faults.
+fn agreement_nodes(f: u32) -> u32
+    requires { f ≤ MOST_FAULTS }
+    ensures { result ≡ 3 * f + 1 }
+{
+    3 * f + 1
 }

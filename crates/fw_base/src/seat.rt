@@ -1,8 +1,11 @@
+//! Seats: which a deployment has, their order, and which of them are linked.
+
 ghost use Rattle.std.specs.Prelude.{◌≡◌, ◌≤◌, ◌<◌, ◌+◌, ◌*◌, IsTrue, IfSome, IfNone};
 ghost use Rattle.fw_base.specs.Sizes.{accepted};
 ghost use Rattle.fw_base.specs.Seats.{fits, seat_eq, below, seat_index, seats, linked};
 
-use crate::{Items, Params};
+use crate::Params;
+use fw_list::Items;
 
 /// A node of a deployment, or a client.
 #[derive(Clone, Copy, Debug, PartialEq, Eq)]
@@ -23,9 +26,9 @@ impl Seat {
         ensures { result ≡ fits params.now self }
     {
         match self {
-            Seat::Agree(i) => i < 3 * params.f + 1,
-            Seat::Exec(j) => j < 2 * params.g + 1,
-            Seat::Filter(r, c) => r < params.h + 1 && c < params.h + 1,
+            Seat::Agree(i) => i < params.agreements(),
+            Seat::Exec(j) => j < params.executors(),
+            Seat::Filter(r, c) => r < params.width() && c < params.width(),
             Seat::Client(c) => c < params.clients,
         }
     }
@@ -108,7 +111,8 @@ fn in_rows(place: u32, width: u32) -> (u32, u32)
 }
 
 /// Whether frames may pass between two seats: a client and an agreement node, two agreement nodes, an agreement node and a
-/// filter of row 0, filters of rows side by side, a filter of the last row and an executor, two executors.
+/// filter of row 0, filters of rows side by side, a filter of the last row and an executor, two executors. Row 0 is the
+/// filters' row next to the agreement nodes, the last row the one next to the executors.
 pub fn linked(params: &Params, one: Seat, other: Seat) -> bool
     requires { IsTrue (accepted params.now) }
     ensures value { result ≡ linked params.now one other }

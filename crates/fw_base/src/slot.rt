@@ -1,3 +1,5 @@
+//! Slots, which are signed at most once, and the places of the secrets that sign them.
+
 ghost use Rattle.std.specs.Prelude.{◌≡◌, ◌<◌, ◌≤◌, ◌^◌, IsTrue};
 ghost use Rattle.fw_base.specs.Places.{slot_fits, place_fits, row_index, place_index};
 ghost use Rattle.fw_base.specs.Sizes.{accepted};

@@ -12,10 +12,11 @@ ghost use Rattle.fw_node.specs.Given.{Taken, taken};
 ghost use Rattle.fw_rules.specs.Speeches.{client_role, told_to};
 ghost use Rattle.fw_client.specs.Standing.{Asker, StandsFor, speech};
 
-use fw_base::{Memory, Newest, Params, Seat};
-use fw_node::{Message, Node, Outbox};
+use fw_base::{Params, Seat};
+use fw_list::{Memory, Newest};
+use fw_node::{Message, Node, Outbox, number_after};
 use fw_op::{Op, Reply};
-use fw_ref::{Answer, Asked, copy_reply};
+use fw_ref::{Answer, Asked};
 use fw_trace::{Input, Told};
 use std::alloc::Global;
 use std::collections::VecDeque;
@@ -39,16 +40,6 @@ impl Model for ClientNode {
     ghost Value = { Asker };
 
     ghost view = { λ n. record { client = n.client; stamps = n.stamps; keeps = record { asked = n.asked; pending = n.pending; waiting = n.waiting.items; accepted = n.accepted } } };
-}
-
-/// The number after so many.
-fn number_after(count: usize) -> Result<u32, Memory>
-    ensures { IfOk result (λ number. number ≡ count + 1) }
-{
-    match u32::try_from(count) {
-        Ok(number) if number < u32::MAX => Ok(number + 1),
-        _ => Err(Memory),
-    }
 }
 
 /// The reply to this client that a message from a seat tells, and its number.
@@ -152,7 +143,7 @@ impl ClientNode {
         if answer.stamp as usize != self.asked.len() {
             return Ok(());
         }
-        let reply = copy_reply(self.alloc, &answer.reply)?;
+        let reply = answer.reply.copy(self.alloc)?;
         self.pending = false;
         self.accepted.push(Told {
             number,
@@ -227,60 +218,5 @@ impl Node for ClientNode {
 
     fn take(&mut self, input: Input<&Message, &Op>, out: &mut Outbox) -> Result<(), Memory> {
         self.next(input, out)
-    }
-}
-
-#[cfg(test)]
-mod tests {
-    use super::*;
-    use fw_base::Bytes;
-
-    const SIZES: Params = Params {
-        f: 0,
-        g: 0,
-        h: 0,
-        numbers: 4,
-        views: 1,
-        clients: 1,
-        stamps: 2,
-        pipe: 1,
-    };
-
-    #[test]
-    fn asks_and_accepts(rt: HostRuntime) {
-        let alloc = rt.alloc();
-        let mut node = ClientNode::new(alloc, &SIZES, 0);
-        let mut out = Outbox::new(alloc);
-        let op = Op::Get {
-            owner: 0,
-            key: Bytes::new(alloc),
-        };
-        let reply = Message::Reply {
-            number: 7,
-            answer: Answer {
-                client: 0,
-                stamp: 1,
-                reply: Reply::Absent,
-            },
-        };
-        let from = Seat::Agree(0);
-        let message = &reply;
-        let table = [
-            (Input::Submitted { op: &op }, 1, 0),
-            (Input::Submitted { op: &op }, 1, 0),
-            (Input::Submitted { op: &op }, 1, 0),
-            (Input::Tick, 2, 0),
-            (Input::Heard { from, message }, 3, 1),
-            (Input::Heard { from, message }, 3, 1),
-        ];
-        for (input, sent, accepted) in table {
-            assert!(rt; node.take(input, &mut out) == Ok(()));
-            assert_eq!(rt; out.len(), sent);
-            assert_eq!(rt; node.accepted().len(), accepted);
-        }
-        for told in node.accepted() {
-            assert_eq!(rt; (told.number, told.stamp), (7, 1));
-            assert!(rt; matches!(&told.reply, Reply::Absent));
-        }
     }
 }

@@ -2,14 +2,16 @@
 //! (HMAC of RFC 2104 over it). The parts are taken as they stand, and copied nowhere.
 #![tactic(auto)]
 
-ghost use Rattle.std.specs.Prelude.{◌≡◌, ◌≤◌, ◌∷◌, ◌++◌, length};
+ghost use Rattle.std.specs.Prelude.{◌≡◌, ◌≤◌, ◌+◌, ◌∷◌, ◌++◌, length};
 ghost use Rattle.sha2.specs.Sha256.{sha256};
 ghost use Rattle.fw_digest.specs.Hmac.{hmac_sha256, key_block, masked};
 
 use sha2::{Digest, Sha256};
+use std::sync::ledger::Ledger;
 
-#[cfg(test)]
-mod tests;
+mod steps;
+
+pub use steps::Steps;
 
 const INNER_MASK: u8 = 0x36;
 
@@ -24,6 +26,20 @@ pub fn digest(tag: u8, head: &[u8], tail: &[u8]) -> [u8; 32]
     hasher.update(head);
     hasher.update(tail);
     hasher.finalize()
+}
+
+/// The same digest, made for a caller who counts: it is one step of the counter, and nothing else is a step.
+pub fn counted_digest<L: Ledger>(
+    tag: u8,
+    head: &[u8],
+    tail: &[u8],
+    steps: &mut Steps<L>,
+) -> [u8; 32]
+    ensures digest { result ≡ sha256 (tag ∷ head.now ++ tail.now) }
+    ensures step { steps.new ≡ steps.old + 1 }
+{
+    steps.tick();
+    digest(tag, head, tail)
 }
 
 /// The authentication code of the head and the tail under a key of at most one block.

@@ -1,2 +1,2 @@
-pub mod Lookups
+-- The files of lemmas.
 pub mod Turns

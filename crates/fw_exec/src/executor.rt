@@ -1,3 +1,5 @@
+//! The node of an executor.
+
 ghost use Rattle.std.specs.Prelude.{◌≡◌, ◌∷◌, ◌++◌, ◌+◌, [], suc, length, is_some, Some, None, IfOk, OnOk, nat_le, ◌&&◌, if◌then◌else◌};
 ghost use Rattle.fw_base.specs.declared.params.Params.{Params};
 ghost use Rattle.fw_base.specs.declared.seat.Seat.TheVariants.{Exec};
@@ -9,9 +11,10 @@ ghost use Rattle.fw_node.specs.Given.{taken};
 ghost use Rattle.fw_rules.specs.Speeches.{executor_role, executor_speech};
 ghost use Rattle.fw_exec.specs.Standing.{StandsFor};
 
-use crate::lookup::{Agreements, entry_of, keep, share_of, was_told_by};
-use fw_base::{Memory, Newest, Seat};
-use fw_node::{Message, Node, Outbox};
+use crate::lookup::{Agreements, entry_of, keep};
+use fw_base::Seat;
+use fw_list::{Memory, Newest};
+use fw_node::{Message, Node, Outbox, number_after, of_number, was_told};
 use fw_op::Op;
 use fw_ref::{Asked, Replica};
 use fw_trace::Input;
@@ -83,10 +86,10 @@ impl ExecNode {
         if number > self.done {
             return Ok(None);
         }
-        if !was_told_by(&self.from, seat, number) {
+        if !was_told(&self.from, seat, number) {
             return Ok(None);
         }
-        match share_of(&self.shares, number) {
+        match of_number(&self.shares, number) {
             None => Ok(None),
             Some(share) => Ok(Some(share.copy(self.alloc)?)),
         }
@@ -112,8 +115,7 @@ impl ExecNode {
         ensures keeps { OnOk result (self.new ≡ (executors.execute_on executor_speech 1 self.old).0) }
         ensures sent { OnOk result (out.new ≡ out.old ++ (executors.execute_on executor_speech 1 self.old).1) }
     {
-        // A list as long as the numbers reach can't be had.
-        let number = self.done.checked_add(1).ok_or(Memory)?;
+        let number = number_after(self.done as usize)?;
         let answer = match entry_of(&self.kept, number) {
             None => return Ok(false),
             Some(asked) => self.replica.answer(asked)?,

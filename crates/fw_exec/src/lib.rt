@@ -3,7 +3,5 @@
 
 mod executor;
 mod lookup;
-#[cfg(test)]
-mod tests;
 
 pub use executor::ExecNode;

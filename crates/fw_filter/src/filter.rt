@@ -1,3 +1,5 @@
+//! The node of a filter.
+
 ghost use Rattle.std.specs.Prelude.{◌≡◌, ◌++◌, ◌∷◌, [], ℕ, Some, OnOk, not, ◌||◌};
 ghost use Rattle.fw_base.specs.declared.params.Params.{Params};
 ghost use Rattle.fw_base.specs.declared.seat.Seat.TheVariants.{Filter};
@@ -9,9 +11,10 @@ ghost use Rattle.fw_node.specs.Given.{taken};
 ghost use Rattle.fw_rules.specs.Speeches.{filter_speech, filter_role, combined_of};
 ghost use Rattle.fw_filter.specs.Standing.{StandsFor};
 
-use crate::lookup::{combined, has_share, held_of, was_asked, was_asked_by};
-use fw_base::{Items, Memory, Newest, Seat};
-use fw_node::{Message, Node, Outbox};
+use crate::lookup::{combined, has_share, was_asked};
+use fw_base::Seat;
+use fw_list::{Items, Memory, Newest};
+use fw_node::{Message, Node, Outbox, of_number, was_told};
 use fw_op::Op;
 use fw_ref::Answer;
 use fw_trace::{Input, Share};
@@ -53,7 +56,7 @@ impl FilterNode {
     fn goes_up(&self, from: Seat, number: u32) -> bool
         ensures { result ≡ (not (filters.asked_at_all self.now.asked number) || executors.sent_before self.now.asked from number) }
     {
-        !was_asked(&self.asked, number) || was_asked_by(&self.asked, from, number)
+        !was_asked(&self.asked, number) || was_told(&self.asked, from, number)
     }
 
     /// Sends the reply that is held of a number, or the request upwards.
@@ -66,7 +69,7 @@ impl FilterNode {
     ) -> Result<(), Memory>
         ensures { OnOk result (out.new ≡ out.old ++ (filters.hear_agreed filter_speech self.now from message.now (Some number)).1) }
     {
-        if let Some(reply) = held_of(&self.held, number) {
+        if let Some(reply) = of_number(&self.held, number) {
             return out.push((from, reply.copy(self.alloc)?));
         }
         if self.goes_up(from, number) {
@@ -95,7 +98,7 @@ impl FilterNode {
         ensures keeps { OnOk result (self.new ≡ (filters.hold filter_speech self.old number reply).0) }
         ensures sent { OnOk result (out.new ≡ out.old ++ (filters.hold filter_speech self.old number reply).1) }
     {
-        if held_of(&self.held, number).is_some() {
+        if of_number(&self.held, number).is_some() {
             return Ok(());
         }
         if was_asked(&self.asked, number) {

@@ -3,8 +3,10 @@ use Rattle.std.proofs.Common.{◌≡◌, ℕ, ◌<◌, ◌≤◌, Bool, ◌&&◌
 use Rattle.std.specs.Prelude.{IfOk, IfSome}
 use Rattle.std.specs.List.{flat_map, list_all}
 use Rattle.std.proofs.lemmas.Bool.{and_parts, and_from, leb-true, le-leb, lt-ltb, eqb-true, eq-eqb}
-use Rattle.fw_base.specs.Numbers.{u32}
-use Rattle.fw_base.specs.Sizes.{agreements, within, quorum}
+use Rattle.fw_list.specs.declared.limits.TheConstants.{SIGNATURE_LEN}
+use Rattle.fw_list.specs.Numbers.{u32}
+use Rattle.fw_list.specs.Numbers.{within}
+use Rattle.fw_base.specs.Sizes.{agreements, quorum}
 use Rattle.fw_base.specs.declared.params.Params.{Params}
 use Rattle.fw_frame.specs.Frames.{PlainSigner, PlainProof, PlainChange, PlainEntry}
 use Rattle.fw_frame.specs.Ranges.{ascending, has_length, number_fits, entry_fits, signers_fit, proof_fits, proofs_fit, change_fits, changes_fit, view_fits, values_fit}
@@ -135,7 +137,7 @@ abbrev pub change_of : ℕ × (ℕ × (List PlainProof × List ℕ)) → PlainCh
 change_of x = record { view = x.0; agree = x.1.0; proofs = x.1.1.0; sig = x.1.1.1 }
 
 abbrev pub change_rest : Params → ℕ → ℕ → ℕ × (List PlainProof × List ℕ) → Bool
-change_rest p least view x = then_fits (λ n. nat_le least n && nat_lt n (agreements p)) (then_fits (proofs_fit p view) (has_length 8192)) x
+change_rest p least view x = then_fits (λ n. nat_le least n && nat_lt n (agreements p)) (then_fits (proofs_fit p view) (has_length SIGNATURE_LEN)) x
 
 pub change_same : (p : Params) (low high least : ℕ) → 0 < low → high < p.views
     → Same (then_text u32 (then_text u32 (then_text proofs_bytes (λ bytes. bytes)))) (after_fits (λ n. within low n high) (change_rest p least))
@@ -150,7 +152,7 @@ change_same p low high least pos below = record {
       let le = leb-true x.0 high w.1 in
       let b = and_parts (nat_le least x.1.0 && nat_lt x.1.0 (agreements p)) _ a.1 in
       let c = and_parts (nat_le least x.1.0) (nat_lt x.1.0 (agreements p)) b.0 in
-      let d = and_parts (proofs_fit p x.0 x.1.1.0) (has_length 8192 x.1.1.1) b.1 in
+      let d = and_parts (proofs_fit p x.0 x.1.1.0) (has_length SIGNATURE_LEN x.1.1.1) b.1 in
       and_from _ _ c.0 (and_from _ _ a.0
       (and_from _ _ (and_from _ _ (and_from _ _ (and_from _ _ (lt-ltb 0 x.0 (omega arith)) (lt-ltb x.0 p.views (omega arith))) c.1) d.0) d.1));
   fits_from = λ y h.

@@ -5,12 +5,14 @@ use Rattle.std.proofs.lemmas.List.{append-nil}
 use Rattle.std.specs.Prelude.{IfOk, IfSome}
 use Rattle.std.specs.List.{list_all}
 use Rattle.std.proofs.lemmas.Bool.{ltb-true, and_parts, and_from, or_cases, or_left, or_right, cases_Bool, both_ways, eqb-true, eq-eqb, leb-false, lt-ltb, le-leb}
-use Rattle.fw_base.specs.Numbers.{u32}
-use Rattle.fw_base.specs.Sizes.{agreements, executors, within}
+use Rattle.fw_list.specs.declared.limits.TheConstants.{BODY_LEN, SIGNATURE_LEN}
+use Rattle.fw_list.specs.Numbers.{u32}
+use Rattle.fw_list.specs.Numbers.{within}
+use Rattle.fw_base.specs.Sizes.{agreements, executors}
 use Rattle.fw_base.specs.declared.params.Params.{Params}
 use Rattle.fw_frame.specs.Frames.{PlainEntry, PlainSigner, PlainChange, PlainFrame, Request, Propose, Vote, Change, NewView, Agreed, Share, Reply, Want}
 use Rattle.fw_frame.specs.Ranges.{has_length, asker_fits, body_fits, values_fit, proofs_fit, change_fits, entry_fits, signers_fit, changes_fit, view_fits, frame_fits, IsFrame}
-use Rattle.fw_frame.specs.Reading.{Finds, kind_of, fields_bytes, kind_fits, answer_bytes, is_answer}
+use Rattle.fw_frame.specs.Reading.{Finds, kind_of, fields_bytes, kind_fits, answer_bytes, answered_fits}
 use Rattle.fw_frame.specs.Spelling.{entry_bytes, signers_bytes, change_bytes, changes_bytes, frame_bytes}
 use Rattle.fw_frame.proofs.Fields.{three, five}
 use Rattle.fw_frame.proofs.Reading.{then_text, then_fits, after_fits, Same}
@@ -42,7 +44,7 @@ propose_back : (y : PlainFrame) → kind_of y ≡ 2 → propose_of (propose_from
 propose_back y e = grind arith
 
 pub propose_same : (p : Params) → Same (then_text u32 (then_text u32 (then_text entry_bytes (λ bytes. bytes))))
-    (then_fits (λ n. nat_lt n p.views) (then_fits (λ n. within 1 n p.numbers) (then_fits (entry_fits p) (has_length 8192)))) fields_bytes (kind_fits p 2) propose_of
+    (then_fits (λ n. nat_lt n p.views) (then_fits (λ n. within 1 n p.numbers) (then_fits (entry_fits p) (has_length SIGNATURE_LEN)))) fields_bytes (kind_fits p 2) propose_of
 propose_same p = same_by p 2 propose_of propose_from (λ x. simp append_assoc) (λ x. simp and_assoc) propose_back
 
 -- ---- votes
@@ -60,7 +62,7 @@ vote_back y e = grind arith
 pub vote_same : (p : Params)
     → Same (then_text u32 (then_text u32 (then_text u32 (then_text u32 (then_text (λ bytes. bytes) (λ bytes. bytes))))))
     (then_fits (λ n. nat_le n 1) (then_fits (λ n. nat_lt n p.views) (then_fits (λ n. within 1 n p.numbers)
-    (then_fits (λ n. nat_lt n (agreements p)) (then_fits (has_length 32) (has_length 8192)))))) fields_bytes (kind_fits p 3) vote_of
+    (then_fits (λ n. nat_lt n (agreements p)) (then_fits (has_length 32) (has_length SIGNATURE_LEN)))))) fields_bytes (kind_fits p 3) vote_of
 vote_same p = same_by p 3 vote_of vote_from (λ x. simp append_assoc) (λ x. simp and_assoc) vote_back
 
 -- ---- new views
@@ -76,7 +78,7 @@ new_view_back : (y : PlainFrame) → kind_of y ≡ 5 → new_view_of (new_view_f
 new_view_back y e = grind arith
 
 abbrev pub new_view_rest : Params → ℕ → List PlainChange × List ℕ → Bool
-new_view_rest p view x = then_fits (changes_fit p view) (has_length 8192) x
+new_view_rest p view x = then_fits (changes_fit p view) (has_length SIGNATURE_LEN) x
 
 pub new_view_same : (p : Params)
     → Same (then_text u32 (then_text changes_bytes (λ bytes. bytes))) (after_fits (λ n. nat_lt 0 n && view_fits p n) (new_view_rest p)) fields_bytes (kind_fits p 5) new_view_of
@@ -103,8 +105,8 @@ agreed_same p = same_by p 6 agreed_of agreed_from (λ x. simp append_assoc) (λ 
 abbrev pub whole : ℕ × (ℕ × List ℕ) → Bool
 whole x = nat_le 1 x.1.0 || nat_eq x.0 0 && list_all (nat_eq 0) x.1.1
 
-pub answer_from : (p : Params) → 0 < p.clients → (x : ℕ × (ℕ × List ℕ)) → IsTrue (is_answer p x)
-    → IsTrue (then_fits (λ n. nat_lt n p.clients) (then_fits (λ n. nat_le n p.stamps) (has_length 544)) x)
+pub answer_from : (p : Params) → 0 < p.clients → (x : ℕ × (ℕ × List ℕ)) → IsTrue (answered_fits p x)
+    → IsTrue (then_fits (λ n. nat_lt n p.clients) (then_fits (λ n. nat_le n p.stamps) (has_length BODY_LEN)) x)
 answer_from p some x h =
     let a = and_parts (body_fits x.1.1) _ h in
     elim (or_cases (asker_fits p x.0 x.1.0) (nat_eq x.0 0 && nat_eq x.1.0 0 && list_all (nat_eq 0) x.1.1) a.1) [
@@ -119,10 +121,10 @@ answer_from p some x h =
           and_from _ _ (lt-ltb x.0 p.clients (omega arith)) (and_from _ _ (le-leb x.1.0 p.stamps (omega arith)) a.0)
     ]
 
-pub answer_to : (p : Params) (x : ℕ × (ℕ × List ℕ)) → IsTrue (then_fits (λ n. nat_lt n p.clients) (then_fits (λ n. nat_le n p.stamps) (has_length 544)) x) → IsTrue (whole x) → IsTrue (is_answer p x)
+pub answer_to : (p : Params) (x : ℕ × (ℕ × List ℕ)) → IsTrue (then_fits (λ n. nat_lt n p.clients) (then_fits (λ n. nat_le n p.stamps) (has_length BODY_LEN)) x) → IsTrue (whole x) → IsTrue (answered_fits p x)
 answer_to p x f w =
     let a = and_parts (nat_lt x.0 p.clients) _ f in
-    let b = and_parts (nat_le x.1.0 p.stamps) (has_length 544 x.1.1) a.1 in
+    let b = and_parts (nat_le x.1.0 p.stamps) (has_length BODY_LEN x.1.1) a.1 in
     and_from _ _ b.1 (elim (cases_Bool (nat_le 1 x.1.0)) [
       | inl asks ↦ or_left _ _ (and_from _ _ a.0 (and_from _ _ asks b.0))
       | inr none ↦
@@ -148,7 +150,7 @@ share_back : (y : PlainFrame) → kind_of y ≡ 7 → share_of (share_from y) �
 share_back y e = grind arith
 
 pub share_same : (p : Params) → Same (then_text u32 (then_text u32 (then_text answer_bytes (λ bytes. bytes))))
-    (then_fits (λ n. within 1 n p.numbers) (then_fits (λ n. nat_lt n (executors p)) (then_fits (is_answer p) (has_length 8192)))) fields_bytes (kind_fits p 7) share_of
+    (then_fits (λ n. within 1 n p.numbers) (then_fits (λ n. nat_lt n (executors p)) (then_fits (answered_fits p) (has_length SIGNATURE_LEN)))) fields_bytes (kind_fits p 7) share_of
 share_same p = same_by p 7 share_of share_from (λ x. simp append_assoc) (λ x. simp and_assoc) share_back
 
 -- ---- replies
@@ -164,7 +166,7 @@ reply_back : (y : PlainFrame) → kind_of y ≡ 8 → reply_of (reply_from y) �
 reply_back y e = grind arith
 
 pub reply_same : (p : Params) → Same (then_text u32 (then_text answer_bytes (λ bytes. bytes)))
-    (then_fits (λ n. within 1 n p.numbers) (then_fits (is_answer p) (has_length 8192))) fields_bytes (kind_fits p 8) reply_of
+    (then_fits (λ n. within 1 n p.numbers) (then_fits (answered_fits p) (has_length SIGNATURE_LEN))) fields_bytes (kind_fits p 8) reply_of
 reply_same p = same_by p 8 reply_of reply_from (λ x. simp append_assoc) (λ x. simp and_assoc) reply_back
 
 -- ---- view changes

@@ -1,3 +1,4 @@
+-- The files of lemmas.
 pub mod Gathering
 pub mod Rows
 pub mod Whole
@@ -6,3 +7,4 @@ pub mod Lists
 pub mod Fields
 pub mod FrameFields
 pub mod Writing
+pub mod Beginning

@@ -4,8 +4,8 @@ use Rattle.std.specs.Int.{w32, to_be_bytes, from_be_bytes}
 use Rattle.std.proofs.lemmas.Nat.{from_be_bytes-to_be_bytes_4}
 use Rattle.std.proofs.lemmas.Bool.{and_parts, and_from, leb-true, eqb-true, eq-eqb, le-leb}
 use Rattle.std.specs.Prelude.{MatchOption}
-use Rattle.fw_base.specs.Sizes.{within}
-use Rattle.fw_base.specs.Numbers.{u32}
+use Rattle.fw_list.specs.Numbers.{within}
+use Rattle.fw_list.specs.Numbers.{u32}
 use Rattle.fw_frame.specs.Ranges.{has_length}
 use Rattle.fw_frame.specs.Reading.{Finds}
 

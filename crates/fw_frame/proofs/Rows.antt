@@ -3,7 +3,7 @@ use Rattle.std.proofs.Common.{◌≡◌, ℕ, zero, suc, ◌+◌, ◌<◌, List,
 use Rattle.std.proofs.lemmas.List.{map-append, get_or-map}
 use Rattle.std.proofs.lemmas.List.Elements.{All-get_or}
 use Rattle.std.proofs.Math.ListN.{length-map}
-use Rattle.fw_base.specs.Lists.{numbers_from}
+use Rattle.fw_list.specs.Lists.{numbers_from}
 
 numbers_from-suc : (first count : ℕ) → numbers_from first (suc count) ≡ numbers_from first count ++ (first + count) ∷ []
 numbers_from-suc first zero = ap (λ n. n ∷ []) (sym (add-zero first))

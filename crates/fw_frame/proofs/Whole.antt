@@ -4,6 +4,7 @@ use Rattle.std.specs.Prelude.{◌&&◌, nat_eq, IsTrue, flat_map, Some, None}
 use Rattle.std.specs.List.{list_all}
 use Rattle.std.proofs.lemmas.Bool.{eqb-true}
 use Rattle.std.proofs.lemmas.List.Elements.{All-nil, All-cons}
+use Rattle.fw_list.specs.declared.limits.TheConstants.{SIGNATURE_LEN}
 use Rattle.fw_base.specs.declared.params.Params.{Params}
 use Rattle.fw_text.specs.Texts.{Hash}
 use Rattle.fw_frame.specs.Frames.{PlainEntry, PlainSigner, PlainProof, PlainChange, PlainFrame, Request, Propose, Vote, Change, NewView, Agreed, Share, Reply, Want}
@@ -12,7 +13,7 @@ use Rattle.fw_frame.specs.Parts.{Piece, Signed, Unsigned, part_of, digested, dig
 
 -- what it says of a piece
 abbrev pub IsWholePiece : Piece → Type 0
-IsWholePiece (Signed part) = length part.values ≡ 8192
+IsWholePiece (Signed part) = length part.values ≡ SIGNATURE_LEN
 IsWholePiece (Unsigned text) = Unit {0}
 
 abbrev pub AreWhole : List Piece → Type 0
@@ -27,8 +28,8 @@ both : (a b : Bool) → IsTrue (a && b) → IsTrue a × IsTrue b
 both true b e = (refl, e)
 both false b e = cc
 
-whole_values : (values : List ℕ) → IsTrue (values_fit values) → length values ≡ 8192
-whole_values values fits = eqb-true (length values) 8192 fits
+whole_values : (values : List ℕ) → IsTrue (values_fit values) → length values ≡ SIGNATURE_LEN
+whole_values values fits = eqb-true (length values) SIGNATURE_LEN fits
 
 -- from pieces to parts
 parts_whole : (hash : Hash) (ps : List Piece) → AreWhole ps → All IsWhole (map (digested hash) (flat_map part_of ps))

@@ -1,3 +1,4 @@
+-- The files of definitions.
 pub mod Frames
 pub mod Plain
 pub mod Spelling
@@ -6,3 +7,4 @@ pub mod Parts
 pub mod Gathered
 pub mod Reading
 pub mod Writing
+pub mod Needing

@@ -4,7 +4,8 @@ use Rattle.std.specs.Prelude.{◌≡◌, ℕ, zero, suc, ◌+◌, List, [], ◌�
 use Rattle.fw_base.specs.declared.params.Params.{Params}
 use Rattle.fw_base.specs.declared.slot.Slot.{Slot}
 use Rattle.fw_base.specs.declared.slot.Slot.TheVariants as slots
-use Rattle.fw_base.specs.Lists.{numbers_from}
+use Rattle.fw_list.specs.Lists.{numbers_from}
+use Rattle.fw_list.specs.declared.limits.TheConstants.{SIGNATURE_LEN}
 use Rattle.fw_base.specs.Sizes.{primary}
 use Rattle.fw_text.specs.Texts.{Text, Asked, Nothing, Voted, Changed, Begun, Answered, Listed, Heading, Hash, text_bytes}
 use Rattle.fw_text.specs.Bits.{place_on, value_at}
@@ -137,7 +138,7 @@ digested_parts p hash frame = map (digested hash) (parts p hash frame)
 
 -- its values are 256 of 32 bytes
 abbrev pub IsWhole : PlainPart → Type 0
-IsWhole part = length part.values ≡ 8192
+IsWhole part = length part.values ≡ SIGNATURE_LEN
 
 -- bit b of a part: its value, and the place on the side of the text's digest
 abbrev pub shown_at : PlainPart → ℕ → Shown

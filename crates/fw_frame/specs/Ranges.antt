@@ -2,7 +2,9 @@
 use Rattle.std.specs.Prelude.{ℕ, ◌≡◌, Bool, true, ◌&&◌, ◌||◌, nat_eq, nat_lt, nat_le, List, [], ◌∷◌, length, map, IsTrue, Some, None}
 use Rattle.std.specs.List.{list_all}
 use Rattle.fw_base.specs.declared.params.Params.{Params}
-use Rattle.fw_base.specs.Sizes.{agreements, executors, quorum, within}
+use Rattle.fw_list.specs.Numbers.{within}
+use Rattle.fw_list.specs.declared.limits.TheConstants.{BODY_LEN, SIGNATURE_LEN}
+use Rattle.fw_base.specs.Sizes.{agreements, executors, quorum}
 use Rattle.fw_frame.specs.Frames.{PlainRequest, PlainEntry, PlainSigner, PlainProof, PlainChange, PlainFrame, Request, Propose, Vote, Change, NewView, Agreed, Share, Reply, Want}
 use Rattle.fw_frame.specs.Spelling.{frame_bytes}
 
@@ -27,11 +29,11 @@ abbrev pub asker_fits : Params → ℕ → ℕ → Bool
 asker_fits p client stamp = nat_lt client p.clients && within 1 stamp p.stamps
 
 abbrev pub body_fits : List ℕ → Bool
-body_fits body = has_length 544 body
+body_fits body = has_length BODY_LEN body
 
 -- 256 values of 32 bytes: a signature, the shares or the secrets of a reply
 abbrev pub values_fit : List ℕ → Bool
-values_fit values = has_length 8192 values
+values_fit values = has_length SIGNATURE_LEN values
 
 abbrev pub request_fits : Params → PlainRequest → Bool
 request_fits p r = asker_fits p r.client r.stamp && body_fits r.body && values_fit r.sig

@@ -1,7 +1,7 @@
 -- What reading finds at the front of bytes.
 use Rattle.std.specs.Prelude.{◌≡◌, ℕ, Bool, ◌&&◌, nat_eq, List, ◌++◌, length, drop, map, Option, Some, IfSome, IsTrue}
 use Rattle.std.specs.List.{list_all}
-use Rattle.fw_base.specs.Numbers.{u32}
+use Rattle.fw_list.specs.Numbers.{u32}
 use Rattle.fw_base.specs.declared.params.Params.{Params}
 use Rattle.fw_frame.specs.Frames.{PlainFrame, Request, Propose, Vote, Change, NewView, Agreed, Share, Reply, Want}
 use Rattle.fw_frame.specs.Ranges.{ascending, answer_fits, frame_fits}
@@ -39,5 +39,5 @@ list_fits key fits count items = nat_eq (length items) count && list_all fits it
 abbrev pub answer_bytes : ℕ × (ℕ × List ℕ) → List ℕ
 answer_bytes x = u32 x.0 ++ (u32 x.1.0 ++ x.1.1)
 
-abbrev pub is_answer : Params → ℕ × (ℕ × List ℕ) → Bool
-is_answer p x = answer_fits p x.0 x.1.0 x.1.1
+abbrev pub answered_fits : Params → ℕ × (ℕ × List ℕ) → Bool
+answered_fits p x = answer_fits p x.0 x.1.0 x.1.1

@@ -1,7 +1,7 @@
 -- The bytes of a frame: its kind, and then its fields in order. Numbers have four bytes, the highest first; a list stands behind
 -- its count.
 use Rattle.std.specs.Prelude.{ℕ, List, ◌∷◌, ◌++◌, length, flat_map, Some, None}
-use Rattle.fw_base.specs.Numbers.{u32}
+use Rattle.fw_list.specs.Numbers.{u32}
 use Rattle.fw_frame.specs.Frames.{PlainRequest, PlainEntry, PlainSigner, PlainProof, PlainChange, PlainFrame, Request, Propose, Vote, Change, NewView, Agreed, Share, Reply, Want}
 
 abbrev pub request_bytes : PlainRequest → List ℕ

@@ -1,23 +1,17 @@
+//! What a frame carries: for each signature or list of shares 256 values, each with its place.
+
 ghost use Rattle.std.specs.Prelude.{◌≡◌, ◌<◌, ◌≤◌, ◌++◌, map, flat_map, IfOk, OnOk, IsTrue, All};
-ghost use Rattle.fw_base.specs.Lists.{numbers_from};
+ghost use Rattle.fw_list.specs.Lists.{numbers_from};
 ghost use Rattle.fw_base.specs.Sizes.{accepted};
-ghost use Rattle.fw_text.specs.Bits.{bit_of};
 ghost use Rattle.fw_text.specs.Texts.{hash};
 ghost use Rattle.fw_frame.specs.Plain.{plain};
 ghost use Rattle.fw_frame.specs.Parts.{IsWhole, plain_part, shown_at, shown_of, digested_parts, carried};
 
 use crate::{Carried, Frame, Part, Shown};
-use fw_base::{Items, Memory, Params, Place};
+use fw_base::{Params, Place};
+use fw_list::{Items, Memory};
+use fw_text::bit_of;
 use std::alloc::Global;
-
-/// A bit of a digest: bit 0 is the highest of its first byte.
-fn bit_of(digest: &[u8; 32], bit: u32) -> u32
-    requires { bit < 256 }
-    ensures { result ≡ bit_of digest.now bit }
-{
-    let byte = digest[(bit / 8) as usize];
-    ((byte >> (7 - bit % 8)) % 2) as u32
-}
 
 impl Part<'_> {
     /// The value for a bit of the digest, with its place on the side of that bit.
@@ -29,7 +23,7 @@ impl Part<'_> {
         let at = 32 * bit as usize;
         let mut value = [0; 32];
         value.copy_from_slice(&self.values[at..at + 32]);
-        let side = bit_of(&self.digest, bit);
+        let side = u32::from(bit_of(&self.digest, bit as usize));
         let place = Place {
             slot: self.slot,
             bit,

@@ -1,6 +1,8 @@
-use fw_base::Items;
+//! The nine frames, as they borrow the bytes that they were read from.
 
-/// A client's request: its operation is sealed in the body (544 bytes), and the signature (256 values of 32 bytes) is the
+use fw_list::Items;
+
+/// A client's request: its operation is sealed in the body (of `BODY_LEN` bytes), and the signature (256 values of 32 bytes) is the
 /// client's.
 #[derive(Clone, Copy)]
 pub struct Request<'a> {

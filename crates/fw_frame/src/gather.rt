@@ -1,3 +1,5 @@
+//! The walk over a frame that gathers its parts and its texts.
+
 ghost use Rattle.std.specs.Prelude.{◌≡◌, ◌<◌, [], ◌∷◌, map, IfOk, OnOk, IsTrue};
 ghost use Rattle.std.specs.List.{flat_map};
 ghost use Rattle.fw_base.specs.Sizes.{agreements, accepted};
@@ -13,7 +15,8 @@ use crate::texts::{
     text_of_vote,
 };
 use crate::{Change, Entry, Frame, Proof, Request, Signer, TextList};
-use fw_base::{Items, Memory, Params, Slot};
+use fw_base::{Params, Slot};
+use fw_list::{Items, Memory};
 use std::alloc::Global;
 
 /// A request: its digest is answered.
@@ -310,8 +313,7 @@ impl<'a> Frame<'a> {
         requires { IsTrue (accepted params.now) }
         ensures { IfOk result (λ list. map plain_part list ≡ digested_parts params.now hash (plain self.now)) }
     {
-        let nodes = 3 * params.f + 1;
-        let Gathered { parts, texts: _ } = gather(alloc, self, nodes)?;
+        let Gathered { parts, texts: _ } = gather(alloc, self, params.agreements())?;
         Ok(parts)
     }
 }

@@ -1,13 +1,13 @@
+//! The parts of a frame, which are its signatures and lists of shares, and how they are gathered.
+
 ghost use Rattle.std.specs.Prelude.{◌≡◌, IfOk, OnOk};
 ghost use Rattle.fw_frame.specs.Parts.{vote_slot};
 ghost use Rattle.fw_frame.specs.Gathered.{GathersSigned, GathersUnsigned};
 
 use crate::{Text, TextList};
-use fw_base::{Bytes, Items, Memory, Slot};
+use fw_base::Slot;
+use fw_list::{Bytes, Items, Memory};
 use std::alloc::Global;
-
-#[cfg(test)]
-mod tests;
 
 /// A signature or a list of shares in a frame: 256 values of a slot, at a point, that sign the bits of a digest.
 #[derive(Clone, Copy)]

@@ -1,13 +1,13 @@
+//! Reading a frame.
+
 mod changes;
 mod entry;
 mod fields;
 mod kinds;
 mod proofs;
 mod signers;
-#[cfg(test)]
-mod tests;
 
-ghost use Rattle.std.specs.Prelude.{◌≡◌, IsTrue, IfOk, IfSome, Some, option_map};
+ghost use Rattle.std.specs.Prelude.{◌≡◌, ◌∷◌, IsTrue, IfOk, OnErr, IfSome, Some, option_map};
 ghost use Rattle.fw_base.specs.Sizes.{accepted};
 ghost use Rattle.fw_frame.specs.Frames.{PlainFrame};
 ghost use Rattle.fw_frame.specs.Plain.{plain};
@@ -15,9 +15,11 @@ ghost use Rattle.fw_frame.specs.Ranges.{IsFrame, frame_fits};
 ghost use Rattle.fw_frame.specs.Reading.{Finds, kind_fits, fields_bytes};
 ghost use Rattle.fw_frame.specs.Spelling.{frame_bytes};
 ghost use Rattle.fw_frame.specs.Writing.{IsWritable};
+ghost use Rattle.fw_frame.specs.Needing.{HasLists};
 
 use crate::Frame;
-use fw_base::{Memory, Params};
+use fw_base::Params;
+use fw_list::Memory;
 use fw_wire::Reader;
 use std::alloc::Global;
 
@@ -29,7 +31,8 @@ fn of_kind<'a>(
     kind: u8,
 ) -> Result<Option<Frame<'a>>, Memory>
     requires { IsTrue (accepted params.now) }
-    ensures { IfOk result (λ found. Finds fields_bytes (kind_fits params.now kind) reader.old (option_map plain found) reader.new) }
+    ensures found { IfOk result (λ found. Finds fields_bytes (kind_fits params.now kind) reader.old (option_map plain found) reader.new) }
+    ensures memory { OnErr result (HasLists params.now (kind ∷ reader.old)) }
 {
     match kind {
         1 => Ok(kinds::request(params, reader)),
@@ -52,7 +55,8 @@ fn frame<'a>(
     reader: &mut Reader<'a>,
 ) -> Result<Option<Frame<'a>>, Memory>
     requires { IsTrue (accepted params.now) }
-    ensures { IfOk result (λ found. Finds frame_bytes (frame_fits params.now) reader.old (option_map plain found) reader.new) }
+    ensures found { IfOk result (λ found. Finds frame_bytes (frame_fits params.now) reader.old (option_map plain found) reader.new) }
+    ensures memory { OnErr result (HasLists params.now reader.old) }
 {
     let Some(kind) = reader.u8() else {
         return Ok(None);
@@ -72,6 +76,8 @@ impl<'a> Frame<'a> {
         // What is read can be written.
         ensures writable { IfOk result (λ r. IfSome r IsWritable) }
         ensures each { IfOk result (λ r. (f : PlainFrame) → IsFrame params.now bytes.now f → option_map plain r ≡ Some f) }
+        // Other bytes than these need no memory.
+        ensures memory { OnErr result (HasLists params.now bytes.now) }
     {
         let mut reader = Reader::new(bytes);
         let Some(frame) = frame(alloc, params, &mut reader)? else {

@@ -1,4 +1,7 @@
-use fw_base::{Bytes, Items, Place};
+//! What a frame carries and the texts that it has, as its callers see them.
+
+use fw_base::Place;
+use fw_list::{Bytes, Items};
 
 /// A value with the place that it is carried for.
 #[derive(Clone, Copy)]

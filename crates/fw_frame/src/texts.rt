@@ -1,14 +1,16 @@
+//! The texts that are hashed, made of the pieces of a frame.
+
 ghost use Rattle.std.specs.Prelude.{◌≡◌, ◌++◌, ◌<◌, length, map, IfOk, OnOk};
 ghost use Rattle.std.specs.List.{flat_map};
-ghost use Rattle.fw_base.specs.Numbers.{u32};
+ghost use Rattle.fw_list.specs.Numbers.{u32};
 ghost use Rattle.fw_text.specs.Texts.{Nothing, Voted, Answered, hash, text_bytes, heading_bytes, listed_bytes};
 ghost use Rattle.fw_frame.specs.Plain.{plain_request, plain_entry, plain_proof, plain_change};
 ghost use Rattle.fw_frame.specs.Gathered.{IsFinished};
 ghost use Rattle.fw_frame.specs.Parts.{with_digest, entry_digest, request_text, entry_text, change_text, new_view_text, listed, heading};
 
 use crate::{Change, Entry, Proof, Request, Text};
-use fw_base::{Bytes, Memory};
 use fw_digest::digest;
+use fw_list::{Bytes, Memory};
 use fw_wire::Writer;
 use std::alloc::Global;
 
@@ -47,7 +49,7 @@ pub fn text_of_request(alloc: Global, request: &Request<'_>) -> Result<Text, Mem
 }
 
 /// Two numbers, in four bytes each.
-#[tactic(auto, unfolding(fw_base::specs::Numbers::u32))]
+#[tactic(auto, unfolding(fw_list::specs::Numbers::u32))]
 fn two_numbers(first: u32, second: u32) -> [u8; 8]
     ensures { result ≡ u32 first ++ u32 second }
 {

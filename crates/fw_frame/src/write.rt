@@ -1,3 +1,5 @@
+//! Writing a frame.
+
 mod kinds;
 mod parts;
 
@@ -8,7 +10,7 @@ ghost use Rattle.fw_frame.specs.Spelling.{frame_bytes};
 ghost use Rattle.fw_frame.specs.Writing.{IsWritable, IsWritableChange};
 
 use crate::{Change, Frame};
-use fw_base::{Bytes, Memory};
+use fw_list::{Bytes, Memory};
 use fw_wire::Writer;
 use std::alloc::Global;
 

@@ -4,8 +4,6 @@
 
 mod place;
 mod signing;
-#[cfg(test)]
-mod tests;
 mod verifying;
 
 pub use signing::sign;

@@ -1,6 +1,8 @@
+//! The bytes of a place, as they stand in front of a value when it is hashed.
+
 ghost use Rattle.std.specs.Prelude.{◌≡◌, ◌++◌, length, take};
 ghost use Rattle.std.specs.List.{flat_map};
-ghost use Rattle.fw_base.specs.Numbers.{u32};
+ghost use Rattle.fw_list.specs.Numbers.{u32};
 ghost use Rattle.fw_base.specs.Places.{slot_name};
 ghost use Rattle.fw_text.specs.Texts.{place_bytes};
 
@@ -54,7 +56,7 @@ fn put_numbers(out: &mut [u8], numbers: &[u32; 6])
 }
 
 /// A number in four bytes.
-#[tactic(auto, unfolding(fw_base::specs::Numbers::u32))]
+#[tactic(auto, unfolding(fw_list::specs::Numbers::u32))]
 fn bytes_of(number: u32) -> [u8; 4]
     ensures value { result ≡ u32 number }
     ensures len { length result ≡ 4 }

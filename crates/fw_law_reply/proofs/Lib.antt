@@ -1,3 +1,4 @@
+-- The files of lemmas.
 pub mod Agreeing
 pub mod Executing
 pub mod Filtering

@@ -6,7 +6,8 @@ use Rattle.std.proofs.lemmas.Option.{none-some, same_Some, slice_get_within}
 use Rattle.fw_ref.specs.declared.asked.Asked.{Asked}
 use Rattle.fw_ref.specs.declared.asked.Answer.{Answer}
 use Rattle.fw_ref.specs.Reference.{Reference, Opened, opened, at_start, step, answers, folded}
-use Rattle.fw_trace.specs.Lists.{numbers_from, front_of, first_at, greatest_of}
+use Rattle.fw_list.specs.Lists.{numbers_from}
+use Rattle.fw_trace.specs.Lists.{front_of, first_at, greatest_of}
 use Rattle.fw_trace.proofs.Words.{In}
 use Rattle.fw_rules.specs.Outcome.{reference}
 

@@ -1,16 +1,19 @@
-//! What passes between the seats, and the trait of a node that takes inputs one after another.
+//! What passes between the seats, the trait of a node that takes inputs one after another, and what nodes look up.
 #![tactic(auto)]
 
 ghost use Rattle.std.specs.Prelude.{◌≡◌, IfOk};
 
-use fw_base::{Items, Memory, Seat};
+use fw_base::Seat;
+use fw_list::{Items, Memory};
 use fw_op::Op;
 use fw_ref::{Answer, Asked};
 use fw_trace::Input;
 use std::alloc::Global;
 
+mod lookup;
 mod node;
 
+pub use lookup::{number_after, of_number, was_told};
 pub use node::Node;
 
 /// What passes between the seats.

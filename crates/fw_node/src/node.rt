@@ -1,3 +1,5 @@
+//! A node takes inputs one after another.
+
 ghost use Rattle.std.specs.Prelude.{◌≡◌, List, ◌∷◌, ◌++◌, OnOk};
 ghost use Rattle.fw_base.specs.declared.params.Params.{Params};
 ghost use Rattle.fw_base.specs.declared.seat.Seat.{Seat};
@@ -5,7 +7,7 @@ ghost use Rattle.fw_node.specs.declared.Message.{Message};
 ghost use Rattle.fw_node.specs.Given.{Taken, taken};
 
 use crate::{Message, Outbox};
-use fw_base::Memory;
+use fw_list::Memory;
 use fw_op::Op;
 use fw_trace::Input;
 

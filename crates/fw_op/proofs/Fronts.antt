@@ -3,7 +3,7 @@ use Rattle.std.proofs.Common.{◌≡◌, ℕ, ◌<◌, ◌^◌, List, [], ◌∷
 use Rattle.std.proofs.lemmas.Bool.{and_parts, leb-true}
 use Rattle.std.proofs.lemmas.Nat.{from_be_bytes-to_be_bytes_2}
 use Rattle.std.specs.List.{list_all}
-use Rattle.fw_base.specs.Sizes.{within}
+use Rattle.fw_list.specs.Numbers.{within}
 use Rattle.fw_op.specs.Keys.{is_value_byte, is_value, key_bytes, value_bytes}
 use Rattle.std.specs.Int.{w16, to_be_bytes, from_be_bytes}
 

@@ -2,7 +2,7 @@
 use Rattle.std.proofs.Common.{◌≡◌, ℕ, ◌*◌, ◌≤◌, true, nat_lt, nat_le, List, [], ◌∷◌, length, arith, length-append, lit≤}
 use Rattle.std.proofs.lemmas.Bool.{and_parts, leb-true}
 use Rattle.std.specs.List.{list_all, flat_map}
-use Rattle.fw_base.specs.Sizes.{within}
+use Rattle.fw_list.specs.Numbers.{within}
 use Rattle.fw_op.specs.declared.reply.Name.{Name}
 use Rattle.fw_op.specs.declared.reply.Reply.{Reply}
 use Rattle.fw_op.specs.declared.reply.Reply.TheVariants.{Done, Value, Absent, Differs, Count, Keys, Bad, Old, Null}

@@ -1,6 +1,8 @@
+-- The lemmas.
 pub mod Each
 pub mod Fronts
 pub mod NameBytes
+pub mod NameWords
 pub mod Listing
 pub mod Sentences
 pub mod OpSentences

@@ -1,11 +1,11 @@
 -- Names in bytes, one after another.
-use Rattle.std.proofs.Common.{◌≡◌, ◌≢◌, ℕ, ◌+◌, ◌-◌, ◌<◌, true, ◌&&◌, List, [], ◌∷◌, ◌++◌, length, refl, sym, ap, ap₂, ◌∙◌, arith, append_assoc}
-use Rattle.std.proofs.lemmas.Bool.{and_parts}
+use Rattle.std.proofs.Common.{◌≡◌, ◌≢◌, ℕ, ◌+◌, ◌-◌, ◌<◌, true, ◌&&◌, List, [], ◌∷◌, ◌++◌, length, length-append, refl, sym, ap, ap₂, ◌∙◌, arith, append_assoc}
+use Rattle.std.proofs.lemmas.Bool.{and_parts, and_from}
 use Rattle.std.proofs.lemmas.List.{append-nil}
 use Rattle.std.proofs.lemmas.List.Folds.{list_all-append}
 use Rattle.std.specs.List.{list_all, flat_map}
 use Rattle.fw_op.specs.declared.reply.Name.{Name}
-use Rattle.fw_op.specs.Replies.{name_bytes, name_fits}
+use Rattle.fw_op.specs.Replies.{name_bytes, name_fits, AreNames}
 use Rattle.fw_op.proofs.Fronts.{same_front}
 
 -- names that begin bytes are one
@@ -60,3 +60,35 @@ counted old left n names taken is =
     let size : length names ≡ n = cc in
     let after : left ≡ flat_map name_bytes names = cc in
     (size, after ∙ sym (append-nil (flat_map name_bytes names)))
+
+-- the bytes begin with so many names, and the rest is left
+abbrev pub BeginsWith : List ℕ → List ℕ → ℕ → Type 0
+BeginsWith whole left count = (names : List Name) × (whole ≡ flat_map name_bytes names ++ left) × (length names ≡ count) × (list_all (name_fits 8) names ≡ true)
+
+flat : (xs : List Name) (n : Name) → flat_map name_bytes (xs ++ n ∷ []) ≡ flat_map name_bytes xs ++ name_bytes n
+flat [] n = append-nil (name_bytes n)
+flat (x ∷ xs) n = ap (λ rest. name_bytes x ++ rest) (flat xs n) ∙ sym (append_assoc (name_bytes x) (flat_map name_bytes xs) (name_bytes n))
+
+-- and with one name more
+pub one_more : (whole left next : List ℕ) (count : ℕ) (n : Name) → BeginsWith whole left count → left ≡ name_bytes n ++ next → name_fits 8 n ≡ true → BeginsWith whole next (count + 1)
+one_more whole left next count n begun is fits =
+    let names = begun.0 in
+    let read : whole ≡ flat_map name_bytes (names ++ n ∷ []) ++ next =
+    begun.1 ∙ ap (λ rest. flat_map name_bytes names ++ rest) is ∙ sym (append_assoc (flat_map name_bytes names) (name_bytes n) next) ∙ sym (ap (λ front. front ++ next) (flat names n)) in
+    let all : list_all (name_fits 8) (names ++ n ∷ []) ≡ true =
+    list_all-append (name_fits 8) names (n ∷ []) ∙ and_from (list_all (name_fits 8) names) (list_all (name_fits 8) (n ∷ [])) begun.3 (and_from (name_fits 8 n) true fits refl) in
+    (names ++ n ∷ [], read, omega (arith, length-append names (n ∷ []), begun.2), all)
+
+-- where no name comes next, these aren't more names
+pub not_names : (whole left : List ℕ) (done count : ℕ) → BeginsWith whole left done → done < count → ((a : Name) (r : List ℕ) → name_fits 8 a ≡ true → left ≢ name_bytes a ++ r) → AreNames count whole → ⊥
+not_names whole left done count begun fewer none are =
+    no_names whole left [] begun.0 are.0 begun.1 (omega (arith, begun.2, are.2)) none are.3 (are.1 ∙ sym (append-nil (flat_map name_bytes are.0)))
+
+-- where as many were looked at, these are names if nothing is left
+pub are_all : (whole left : List ℕ) (done count : ℕ) → BeginsWith whole left done → done ≡ count → left ≡ [] → AreNames count whole
+are_all whole left done count begun same ended =
+    (begun.0, begun.1 ∙ ap (λ rest. flat_map name_bytes begun.0 ++ rest) ended ∙ append-nil (flat_map name_bytes begun.0), begun.2 ∙ same, begun.3)
+
+pub are_no_more : (whole left : List ℕ) (done count : ℕ) → BeginsWith whole left done → done ≡ count → AreNames count whole → left ≡ []
+are_no_more whole left done count begun same are =
+    (same_names left [] begun.0 are.0 (begun.2 ∙ same ∙ sym are.2) (sym begun.1 ∙ are.1 ∙ sym (append-nil (flat_map name_bytes are.0)))).1

@@ -1,5 +1,5 @@
 -- A text and its words.
-use Rattle.std.proofs.Common.{◌≡◌, ◌≢◌, ℕ, ◌<◌, ◌^◌, Bool, true, false, not, Bor, MatchOption, IfOk, IfSome, IfNone, Result, Ok, Err, inl, inr, List, [], ◌∷◌, ◌++◌, length, get_or, Option, Some, None, refl, sym, ap, ◌∙◌, arith, rules, decimal, nat_eq, nat_lt}
+use Rattle.std.proofs.Common.{◌≡◌, ◌≢◌, ℕ, ◌<◌, ◌^◌, Bool, true, false, not, Bor, MatchOption, IfOk, OnErr, IfSome, IfNone, Result, Ok, Err, inl, inr, List, [], ◌∷◌, ◌++◌, length, get_or, Option, Some, None, refl, sym, ap, ◌∙◌, arith, rules, decimal, nat_eq, nat_lt}
 use Rattle.std.proofs.lemmas.Bool.{ne_eqb, cases_Bool, eqb-true, ltb-true, and_parts, and_from, not-true, not_from_false, true≢false}
 use Rattle.std.proofs.lemmas.Fmt.{digits_decimal}
 use Rattle.std.proofs.lemmas.List.{append-nil}
@@ -11,7 +11,7 @@ use Rattle.std.proofs.lemmas.Str.Pattern.{IsSplitOnceResult, split_once_first, s
 use Rattle.std.specs.Char.{is_ascii_digit}
 use Rattle.std.specs.List.{All, list_all}
 use Rattle.std.specs.Str.Parse.{digits_value}
-use Rattle.fw_base.specs.Sizes.{within}
+use Rattle.fw_list.specs.Numbers.{within}
 use Rattle.fw_op.specs.Keys.{is_key_byte, is_key, is_value_byte, is_value}
 use Rattle.fw_op.specs.Words.{sentence, following, client_word, is_blank, words_of}
 
@@ -99,6 +99,12 @@ pub none_by_words : {A E : Type 0} (spell : A → List (List ℕ)) (fits : A →
 none_by_words spell fits text (Ok (Some a)) back h = tt
 none_by_words spell fits text (Ok None) back h = λ a fit e. h a fit (ap words_of e ∙ back a fit)
 none_by_words spell fits text (Err e) back h = tt
+
+-- a thing that was wanted by its words is wanted by its text
+pub memory_by_words : {A E : Type 0} (spell : A → List (List ℕ)) (fits more : A → Bool) (text : List ℕ) (r : Result (Option A) E)
+    → OnErr r ((a : A) × (words_of text ≡ spell a) × (fits a ≡ true) × (more a ≡ true)) → OnErr r ((a : A) × ((text ≡ sentence (spell a)) × (fits a ≡ true)) × (more a ≡ true))
+memory_by_words spell fits more text (Ok x) h = tt
+memory_by_words spell fits more text (Err e) h = (h.0, (sym (sentence_words text) ∙ ap sentence h.1, h.2), h.3)
 
 -- a thing of one spelling is the one that is read
 pub each_by_words : {A E : Type 0} (spell : A → List (List ℕ)) (fits : A → Bool) (text : List ℕ) (r : Result (Option A) E)

@@ -1,4 +1,6 @@
+-- The definitions.
 pub mod Keys
 pub mod Words
 pub mod Ops
+pub mod Parts
 pub mod Replies

@@ -1,5 +1,6 @@
 -- The spelling of operations in words and in bytes.
-use Rattle.std.specs.Prelude.{◌≡◌, ℕ, Bool, true, ◌&&◌, nat_lt, nat_le, List, [], ◌∷◌, ◌++◌, length, codes, IsTrue}
+use Rattle.std.specs.Prelude.{◌≡◌, ℕ, Bool, true, false, ◌&&◌, nat_lt, nat_le, List, [], ◌∷◌, ◌++◌, length, codes, IsTrue}
+use Rattle.fw_list.specs.declared.limits.TheConstants.{LONGEST_TEXT}
 use Rattle.fw_op.specs.declared.op.Op.{Op}
 use Rattle.fw_op.specs.declared.op.Op.TheVariants.{Put, Get, Del, Cas, Grant, Revoke, Count, Keys}
 use Rattle.fw_op.specs.Keys.{is_key, is_value, key_bytes, value_bytes}
@@ -31,16 +32,22 @@ op_bytes Count = 7 ∷ []
 op_bytes Keys = 8 ∷ []
 
 -- the operation can be asked where there are this many clients: its clients, keys and values are such, and it has at most
--- 510 bytes, of which `cas` alone can have more
+-- `LONGEST_TEXT` bytes, of which `cas` alone can have more
 abbrev pub op_fits : ℕ → Op → Bool
 op_fits clients (Put key value) = is_key key && is_value value
 op_fits clients (Get owner key) = nat_lt owner clients && is_key key
 op_fits clients (Del key) = is_key key
-op_fits clients (Cas key old new) = is_key key && is_value old && is_value new && nat_le (length (op_bytes (Cas key old new))) 510
+op_fits clients (Cas key old new) = is_key key && is_value old && is_value new && nat_le (length (op_bytes (Cas key old new))) LONGEST_TEXT
 op_fits clients (Grant key client) = is_key key && nat_lt client clients
 op_fits clients (Revoke key client) = is_key key && nat_lt client clients
 op_fits clients Count = true
 op_fits clients Keys = true
+
+-- an operation with a key: to have it is to have copied something
+abbrev pub is_keyed : Op → Bool
+is_keyed Count = false
+is_keyed Keys = false
+is_keyed _ = true
 
 -- the text is this operation's, where there are 8 clients
 abbrev pub IsOpText : List ℕ → Op → Type 0
@@ -49,3 +56,15 @@ IsOpText text op = (text ≡ op_text op) × IsTrue (op_fits 8 op)
 -- the bytes are this operation's, where there are 8 clients
 abbrev pub IsOpBytes : List ℕ → Op → Type 0
 IsOpBytes bytes op = (bytes ≡ op_bytes op) × IsTrue (op_fits 8 op)
+
+-- the words are those of an operation with a key, where there are this many clients
+abbrev pub AreOfKeyedOp : ℕ → List (List ℕ) → Type 0
+AreOfKeyedOp clients words = (op : Op) × (words ≡ op_words op) × IsTrue (op_fits clients op) × IsTrue (is_keyed op)
+
+-- the text is that of an operation with a key, where there are 8 clients
+abbrev pub IsKeyedText : List ℕ → Type 0
+IsKeyedText text = (op : Op) × IsOpText text op × IsTrue (is_keyed op)
+
+-- the bytes are those of an operation with a key, where there are 8 clients
+abbrev pub AreOfKeyed : List ℕ → Type 0
+AreOfKeyed bytes = (op : Op) × IsOpBytes bytes op × IsTrue (is_keyed op)

@@ -5,6 +5,7 @@ use Rattle.std.specs.Int.{w32, to_be_bytes}
 use Rattle.fw_op.specs.declared.reply.Name.{Name}
 use Rattle.fw_op.specs.declared.reply.Reply.{Reply}
 use Rattle.fw_op.specs.declared.reply.Reply.TheVariants.{Done, Value, Absent, Differs, Count, Keys, Bad, Old, Null}
+use Rattle.fw_op.specs.declared.limits.TheConstants.{MOST_NAMES}
 use Rattle.fw_op.specs.Keys.{is_key, is_value, key_bytes, value_bytes}
 use Rattle.fw_op.specs.Words.{sentence, client_word}
 
@@ -51,9 +52,9 @@ has_bytes _ = true
 abbrev pub name_fits : ℕ → Name → Bool
 name_fits clients name = nat_lt name.owner clients && is_key name.key
 
--- up to 24 such names
+-- such names, up to the most
 abbrev pub names_fit : ℕ → List Name → Bool
-names_fit clients names = nat_le (length names) 24 && list_all (name_fits clients) names
+names_fit clients names = nat_le (length names) MOST_NAMES && list_all (name_fits clients) names
 
 -- the reply can be given where there are this many clients
 abbrev pub reply_fits : ℕ → Reply → Bool
@@ -62,6 +63,12 @@ reply_fits clients (Count count) = nat_lt count (2 ^ 32)
 reply_fits clients (Keys names) = names_fit clients names
 reply_fits clients _ = true
 
+-- a reply with a value or names: to have it is to have copied something
+abbrev pub is_telling : Reply → Bool
+is_telling (Value value) = true
+is_telling (Keys names) = true
+is_telling _ = false
+
 -- the text is this reply's, where there are 8 clients
 abbrev pub IsReplyText : List ℕ → Reply → Type 0
 IsReplyText text reply = (text ≡ reply_text reply) × IsTrue (reply_fits 8 reply)
@@ -69,3 +76,27 @@ IsReplyText text reply = (text ≡ reply_text reply) × IsTrue (reply_fits 8 rep
 -- the bytes are this reply's, where there are 8 clients
 abbrev pub IsReplyBytes : List ℕ → Reply → Type 0
 IsReplyBytes bytes reply = (bytes ≡ reply_bytes reply) × IsTrue (reply_fits 8 reply) × IsTrue (has_bytes reply)
+
+-- the words are those of a reply with a value or names, where there are this many clients
+abbrev pub AreOfTellingReply : ℕ → List (List ℕ) → Type 0
+AreOfTellingReply clients words = (reply : Reply) × (words ≡ reply_words reply) × IsTrue (reply_fits clients reply) × IsTrue (is_telling reply)
+
+-- the text is that of a reply with a value or names, where there are 8 clients
+abbrev pub IsTellingText : List ℕ → Type 0
+IsTellingText text = (reply : Reply) × IsReplyText text reply × IsTrue (is_telling reply)
+
+-- the bytes are those of a reply with a value or names, where there are 8 clients
+abbrev pub AreOfTelling : List ℕ → Type 0
+AreOfTelling bytes = (reply : Reply) × IsReplyBytes bytes reply × IsTrue (is_telling reply)
+
+-- the bytes are so many names
+abbrev pub AreNames : ℕ → List ℕ → Type 0
+AreNames count bytes = (names : List Name) × (bytes ≡ flat_map name_bytes names) × (length names ≡ count) × IsTrue (list_all (name_fits 8) names)
+
+-- the bytes are a count and that many names
+abbrev pub AreCountedNames : List ℕ → Type 0
+AreCountedNames bytes = (names : List Name) × (bytes ≡ length names ∷ flat_map name_bytes names) × IsTrue (names_fit 8 names)
+
+-- the words are names, where there are this many clients
+abbrev pub AreNameWords : ℕ → List (List ℕ) → Type 0
+AreNameWords clients words = (names : List Name) × (words ≡ map name_word names) × IsTrue (names_fit clients names)

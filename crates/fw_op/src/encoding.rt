@@ -1,10 +1,12 @@
+//! Keys, values, clients and names, added to bytes.
+
 ghost use Rattle.std.specs.Prelude.{◌≡◌, ◌<◌, ◌++◌, [], ◌∷◌, length, OnOk, IsTrue};
 ghost use Rattle.std.specs.List.{list_all, flat_map};
 ghost use Rattle.fw_op.specs.Keys.{is_key, is_value, key_bytes, value_bytes};
 ghost use Rattle.fw_op.specs.Replies.{name_bytes, name_fits};
 
 use crate::Name;
-use fw_base::{Bytes, Memory};
+use fw_list::{Bytes, Memory};
 
 /// A key after its length.
 pub(crate) fn add_key(bytes: &mut Bytes, key: &[u8]) -> Result<(), Memory>

@@ -1,6 +1,10 @@
+//! Which bytes are a key, and which a value.
+
 ghost use Rattle.std.specs.Prelude.{◌≡◌};
 ghost use Rattle.std.specs.List.{list_all};
 ghost use Rattle.fw_op.specs.Keys.{is_key_byte, is_key, is_value_byte, is_value};
+
+use crate::{LONGEST_KEY, LONGEST_VALUE};
 
 fn is_key_byte(byte: u8) -> bool
     ensures { result ≡ is_key_byte byte }
@@ -15,11 +19,11 @@ fn has_key_bytes(word: &[u8]) -> bool
 }
 
 /// Whether the bytes are a key.
-pub fn is_key(word: &[u8]) -> bool
+pub(crate) fn is_key(word: &[u8]) -> bool
     ensures { result ≡ is_key word.now }
 {
     let len = word.len();
-    len >= 1 && len <= 16 && has_key_bytes(word)
+    len >= 1 && len <= LONGEST_KEY && has_key_bytes(word)
 }
 
 fn has_value_bytes(word: &[u8]) -> bool
@@ -29,9 +33,9 @@ fn has_value_bytes(word: &[u8]) -> bool
 }
 
 /// Whether the bytes are a value.
-pub fn is_value(word: &[u8]) -> bool
+pub(crate) fn is_value(word: &[u8]) -> bool
     ensures { result ≡ is_value word.now }
 {
     let len = word.len();
-    len >= 1 && len <= 480 && has_value_bytes(word)
+    len >= 1 && len <= LONGEST_VALUE && has_value_bytes(word)
 }

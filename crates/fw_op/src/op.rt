@@ -1,12 +1,15 @@
-ghost use Rattle.std.specs.Prelude.{◌≡◌, ◌≢◌, ◌≤◌, ◌++◌, length, Some, IfOk, OnOk, IfSome, IfNone, IsTrue};
-ghost use Rattle.fw_op.specs.Ops.{op_words, op_text, op_bytes, op_fits, IsOpText, IsOpBytes};
+//! Operations: read from words and from bytes, and written in both.
+
+ghost use Rattle.std.specs.Prelude.{◌≡◌, ◌≢◌, ◌≤◌, ◌++◌, [], length, Some, IfOk, OnOk, OnErr, IfSome, IfNone, IsTrue};
+ghost use Rattle.fw_list.specs.declared.limits.TheConstants.{LONGEST_TEXT};
+ghost use Rattle.fw_op.specs.Ops.{op_words, op_text, op_bytes, op_fits, is_keyed, IsOpText, IsOpBytes, AreOfKeyedOp, IsKeyedText, AreOfKeyed};
 
 use crate::encoding::{add_key, add_owner, add_value};
 use crate::op_bytes::op_in;
 use crate::op_words::op_of;
 use crate::words::Words;
 use crate::writing::{add_client, add_word};
-use fw_base::{Bytes, Memory};
+use fw_list::{Bytes, Memory};
 use std::alloc::Global;
 
 /// What a client asks of the records.
@@ -33,7 +36,8 @@ pub enum Op {
 impl Op {
     /// The same operation.
     pub fn copy(&self, alloc: Global) -> Result<Op, Memory>
-        ensures { IfOk result (λ op. op ≡ self.now) }
+        ensures ok { IfOk result (λ op. op ≡ self.now) }
+        ensures memory { OnErr result (IsTrue (is_keyed self.now)) }
     {
         match self {
             Op::Put { key, value } => Ok(Op::Put {
@@ -65,7 +69,7 @@ impl Op {
         }
     }
 
-    /// The operation that the words are, where there are so many clients, or none.
+    /// The operation that all words that are left are, where there are so many clients, or none. No word is left then.
     pub fn from_words(
         alloc: Global,
         clients: u32,
@@ -73,23 +77,26 @@ impl Op {
     ) -> Result<Option<Op>, Memory>
         ensures found { IfOk result (λ found. IfSome found (λ op. (words.old ≡ op_words op) × IsTrue (op_fits clients op))) }
         ensures none { IfOk result (λ found. IfNone found ((op : Op) → IsTrue (op_fits clients op) → words.old ≢ op_words op)) }
+        ensures memory { OnErr result (AreOfKeyedOp clients words.old) }
+        ensures left { words.new ≡ [] }
     {
-        op_of(alloc, clients, words)
+        op_of(alloc, clients, words.all())
     }
 
     /// The operation of which this is the text, or none.
     pub fn read_words(alloc: Global, text: &str) -> Result<Option<Op>, Memory>
         ensures found { IfOk result (λ found. IfSome found (λ op. IsOpText text.now op)) }
         ensures each { IfOk result (λ found. (op : Op) → IsOpText text.now op → found ≡ Some op) }
+        ensures memory { OnErr result (IsKeyedText text.now) }
     {
-        let mut words = Words::of(text);
-        op_of(alloc, 8, &mut words)
+        op_of(alloc, 8, Words::of(text))
     }
 
     /// The operation of which these are the bytes, or none.
     pub fn read_bytes(alloc: Global, bytes: &[u8]) -> Result<Option<Op>, Memory>
         ensures found { IfOk result (λ found. IfSome found (λ op. IsOpBytes bytes.now op)) }
         ensures each { IfOk result (λ found. (op : Op) → IsOpBytes bytes.now op → found ≡ Some op) }
+        ensures memory { OnErr result (AreOfKeyed bytes.now) }
     {
         op_in(alloc, bytes)
     }
@@ -188,7 +195,7 @@ impl Op {
     pub fn bytes(&self, alloc: Global) -> Result<Bytes, Memory>
         requires { IsTrue (op_fits 8 self.now) }
         ensures spelled { IfOk result (λ bytes. bytes ≡ op_bytes self.now) }
-        ensures short { IfOk result (λ bytes. length bytes ≤ 510) }
+        ensures short { IfOk result (λ bytes. length bytes ≤ LONGEST_TEXT) }
     {
         let mut bytes = Bytes::new(alloc);
         self.encode(&mut bytes)?;

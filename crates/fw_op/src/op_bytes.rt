@@ -1,10 +1,15 @@
-ghost use Rattle.std.specs.Prelude.{◌≡◌, ◌≢◌, ◌<◌, ◌≤◌, ◌+◌, ◌++◌, List, ℕ, [], ◌∷◌, length, IfOk, IfSome, IfNone, IsTrue};
+//! Operations read from bytes.
+
+ghost use Rattle.std.specs.Prelude.{◌≡◌, ◌≢◌, ◌<◌, ◌≤◌, ◌+◌, ◌++◌, List, ℕ, [], ◌∷◌, length, IfOk, OnErr, IfSome, IfNone, IsTrue};
+ghost use Rattle.fw_list.specs.declared.limits.TheConstants.{LONGEST_TEXT};
 ghost use Rattle.fw_op.specs.Keys.{is_key, is_value, key_bytes, value_bytes};
-ghost use Rattle.fw_op.specs.Ops.{op_bytes, op_fits, IsOpBytes};
+ghost use Rattle.fw_op.specs.Ops.{op_bytes, op_fits, IsOpBytes, AreOfKeyed};
+ghost use Rattle.fw_op.specs.Parts.{plain_op};
 
 use crate::Op;
+use crate::parts::OpParts;
 use crate::reader::Reader;
-use fw_base::{Bytes, Memory};
+use fw_list::{LONGEST_TEXT, Memory};
 use std::alloc::Global;
 
 /// The key and the value that are left.
@@ -67,116 +72,110 @@ fn key_and_client<'a>(reader: &mut Reader<'a>) -> Option<(&'a [u8], u32)>
 }
 
 /// The operation of kind 1.
-fn put_in(alloc: Global, reader: &mut Reader<'_>) -> Result<Option<Op>, Memory>
-    ensures found { IfOk result (λ found. IfSome found (λ op. (1 ∷ reader.old ≡ op_bytes op) × IsTrue (op_fits 8 op))) }
-    ensures none { IfOk result (λ found. IfNone found ((op : Op) → IsTrue (op_fits 8 op) → 1 ∷ reader.old ≢ op_bytes op)) }
+fn put_in<'a>(reader: &mut Reader<'a>) -> Option<OpParts<'a>>
+    ensures found { IfSome result (λ parts. (1 ∷ reader.old ≡ op_bytes (plain_op parts)) × IsTrue (op_fits 8 (plain_op parts))) }
+    ensures none { IfNone result ((op : Op) → IsTrue (op_fits 8 op) → 1 ∷ reader.old ≢ op_bytes op) }
 {
     let Some((key, value)) = key_and_value(reader) else {
-        return Ok(None);
+        return None;
     };
-    Ok(Some(Op::Put {
-        key: Bytes::copy_of(alloc, key)?,
-        value: Bytes::copy_of(alloc, value)?,
-    }))
+    Some(OpParts::Put { key, value })
 }
 
 /// The operation of kind 2.
-fn get_in(alloc: Global, reader: &mut Reader<'_>) -> Result<Option<Op>, Memory>
-    ensures found { IfOk result (λ found. IfSome found (λ op. (2 ∷ reader.old ≡ op_bytes op) × IsTrue (op_fits 8 op))) }
-    ensures none { IfOk result (λ found. IfNone found ((op : Op) → IsTrue (op_fits 8 op) → 2 ∷ reader.old ≢ op_bytes op)) }
+fn get_in<'a>(reader: &mut Reader<'a>) -> Option<OpParts<'a>>
+    ensures found { IfSome result (λ parts. (2 ∷ reader.old ≡ op_bytes (plain_op parts)) × IsTrue (op_fits 8 (plain_op parts))) }
+    ensures none { IfNone result ((op : Op) → IsTrue (op_fits 8 op) → 2 ∷ reader.old ≢ op_bytes op) }
 {
     let Some((owner, key)) = client_and_key(reader) else {
-        return Ok(None);
+        return None;
     };
-    Ok(Some(Op::Get {
-        owner,
-        key: Bytes::copy_of(alloc, key)?,
-    }))
+    Some(OpParts::Get { owner, key })
 }
 
 /// The operation of kind 3.
-fn del_in(alloc: Global, reader: &mut Reader<'_>) -> Result<Option<Op>, Memory>
-    ensures found { IfOk result (λ found. IfSome found (λ op. (3 ∷ reader.old ≡ op_bytes op) × IsTrue (op_fits 8 op))) }
-    ensures none { IfOk result (λ found. IfNone found ((op : Op) → IsTrue (op_fits 8 op) → 3 ∷ reader.old ≢ op_bytes op)) }
+fn del_in<'a>(reader: &mut Reader<'a>) -> Option<OpParts<'a>>
+    ensures found { IfSome result (λ parts. (3 ∷ reader.old ≡ op_bytes (plain_op parts)) × IsTrue (op_fits 8 (plain_op parts))) }
+    ensures none { IfNone result ((op : Op) → IsTrue (op_fits 8 op) → 3 ∷ reader.old ≢ op_bytes op) }
 {
     let Some(key) = reader.last_key() else {
-        return Ok(None);
+        return None;
     };
-    Ok(Some(Op::Del {
-        key: Bytes::copy_of(alloc, key)?,
-    }))
+    Some(OpParts::Del { key })
 }
 
 /// The operation of kind 4.
-fn cas_in(alloc: Global, reader: &mut Reader<'_>) -> Result<Option<Op>, Memory>
-    requires { length reader.old < 510 }
-    ensures found { IfOk result (λ found. IfSome found (λ op. (4 ∷ reader.old ≡ op_bytes op) × IsTrue (op_fits 8 op))) }
-    ensures none { IfOk result (λ found. IfNone found ((op : Op) → IsTrue (op_fits 8 op) → 4 ∷ reader.old ≢ op_bytes op)) }
+fn cas_in<'a>(reader: &mut Reader<'a>) -> Option<OpParts<'a>>
+    requires { length reader.old < LONGEST_TEXT }
+    ensures found { IfSome result (λ parts. (4 ∷ reader.old ≡ op_bytes (plain_op parts)) × IsTrue (op_fits 8 (plain_op parts))) }
+    ensures none { IfNone result ((op : Op) → IsTrue (op_fits 8 op) → 4 ∷ reader.old ≢ op_bytes op) }
 {
     let Some((key, old, new)) = key_and_values(reader) else {
-        return Ok(None);
+        return None;
     };
-    Ok(Some(Op::Cas {
-        key: Bytes::copy_of(alloc, key)?,
-        old: Bytes::copy_of(alloc, old)?,
-        new: Bytes::copy_of(alloc, new)?,
-    }))
+    Some(OpParts::Cas { key, old, new })
 }
 
 /// The operation of kind 5.
-fn grant_in(alloc: Global, reader: &mut Reader<'_>) -> Result<Option<Op>, Memory>
-    ensures found { IfOk result (λ found. IfSome found (λ op. (5 ∷ reader.old ≡ op_bytes op) × IsTrue (op_fits 8 op))) }
-    ensures none { IfOk result (λ found. IfNone found ((op : Op) → IsTrue (op_fits 8 op) → 5 ∷ reader.old ≢ op_bytes op)) }
+fn grant_in<'a>(reader: &mut Reader<'a>) -> Option<OpParts<'a>>
+    ensures found { IfSome result (λ parts. (5 ∷ reader.old ≡ op_bytes (plain_op parts)) × IsTrue (op_fits 8 (plain_op parts))) }
+    ensures none { IfNone result ((op : Op) → IsTrue (op_fits 8 op) → 5 ∷ reader.old ≢ op_bytes op) }
 {
     let Some((key, client)) = key_and_client(reader) else {
-        return Ok(None);
+        return None;
     };
-    Ok(Some(Op::Grant {
-        key: Bytes::copy_of(alloc, key)?,
-        client,
-    }))
+    Some(OpParts::Grant { key, client })
 }
 
 /// The operation of kind 6.
-fn revoke_in(alloc: Global, reader: &mut Reader<'_>) -> Result<Option<Op>, Memory>
-    ensures found { IfOk result (λ found. IfSome found (λ op. (6 ∷ reader.old ≡ op_bytes op) × IsTrue (op_fits 8 op))) }
-    ensures none { IfOk result (λ found. IfNone found ((op : Op) → IsTrue (op_fits 8 op) → 6 ∷ reader.old ≢ op_bytes op)) }
+fn revoke_in<'a>(reader: &mut Reader<'a>) -> Option<OpParts<'a>>
+    ensures found { IfSome result (λ parts. (6 ∷ reader.old ≡ op_bytes (plain_op parts)) × IsTrue (op_fits 8 (plain_op parts))) }
+    ensures none { IfNone result ((op : Op) → IsTrue (op_fits 8 op) → 6 ∷ reader.old ≢ op_bytes op) }
 {
     let Some((key, client)) = key_and_client(reader) else {
-        return Ok(None);
+        return None;
     };
-    Ok(Some(Op::Revoke {
-        key: Bytes::copy_of(alloc, key)?,
-        client,
-    }))
+    Some(OpParts::Revoke { key, client })
 }
 
-/// The operation that these up to 510 bytes are.
-fn op_of_short(alloc: Global, reader: &mut Reader<'_>) -> Result<Option<Op>, Memory>
-    requires { length reader.old ≤ 510 }
-    ensures found { IfOk result (λ found. IfSome found (λ op. (reader.old ≡ op_bytes op) × IsTrue (op_fits 8 op))) }
-    ensures none { IfOk result (λ found. IfNone found ((op : Op) → IsTrue (op_fits 8 op) → reader.old ≢ op_bytes op)) }
+/// The operation that these bytes are, which are no longer than the longest.
+fn parts_of_short<'a>(reader: &mut Reader<'a>) -> Option<OpParts<'a>>
+    requires { length reader.old ≤ LONGEST_TEXT }
+    ensures found { IfSome result (λ parts. (reader.old ≡ op_bytes (plain_op parts)) × IsTrue (op_fits 8 (plain_op parts))) }
+    ensures none { IfNone result ((op : Op) → IsTrue (op_fits 8 op) → reader.old ≢ op_bytes op) }
 {
     match reader.byte() {
-        Some(1) => put_in(alloc, reader),
-        Some(2) => get_in(alloc, reader),
-        Some(3) => del_in(alloc, reader),
-        Some(4) => cas_in(alloc, reader),
-        Some(5) => grant_in(alloc, reader),
-        Some(6) => revoke_in(alloc, reader),
-        Some(7) => Ok(reader.end_with(Op::Count)),
-        Some(8) => Ok(reader.end_with(Op::Keys)),
-        _ => Ok(None),
+        Some(1) => put_in(reader),
+        Some(2) => get_in(reader),
+        Some(3) => del_in(reader),
+        Some(4) => cas_in(reader),
+        Some(5) => grant_in(reader),
+        Some(6) => revoke_in(reader),
+        Some(7) => reader.end_with(OpParts::Count),
+        Some(8) => reader.end_with(OpParts::Keys),
+        _ => None,
     }
+}
+
+/// The operation that the bytes are.
+fn parts_in<'a>(bytes: &'a [u8]) -> Option<OpParts<'a>>
+    ensures found { IfSome result (λ parts. IsOpBytes bytes.now (plain_op parts)) }
+    ensures none { IfNone result ((op : Op) → ¬ IsOpBytes bytes.now op) }
+{
+    if bytes.len() > LONGEST_TEXT {
+        return None;
+    }
+    parts_of_short(&mut Reader::new(bytes))
 }
 
 /// The operation that the bytes are.
 pub(crate) fn op_in(alloc: Global, bytes: &[u8]) -> Result<Option<Op>, Memory>
     ensures found { IfOk result (λ found. IfSome found (λ op. IsOpBytes bytes.now op)) }
     ensures none { IfOk result (λ found. IfNone found ((op : Op) → ¬ IsOpBytes bytes.now op)) }
+    ensures memory { OnErr result (AreOfKeyed bytes.now) }
 {
-    if bytes.len() > 510 {
+    let Some(parts) = parts_in(bytes) else {
         return Ok(None);
-    }
-    op_of_short(alloc, &mut Reader::new(bytes))
+    };
+    Ok(Some(parts.own(alloc)?))
 }

@@ -1,12 +1,16 @@
-ghost use Rattle.std.specs.Prelude.{◌≡◌, ◌≢◌, ◌<◌, ◌≤◌, ◌+◌, List, ℕ, [], ◌∷◌, length, codes, IfOk, IfSome, IfNone, IsTrue};
+//! Operations read from words.
+
+ghost use Rattle.std.specs.Prelude.{◌≡◌, ◌≢◌, ◌<◌, ◌≤◌, ◌+◌, List, ℕ, [], ◌∷◌, length, codes, IfOk, OnErr, IfSome, IfNone, IsTrue};
 ghost use Rattle.fw_op.specs.Keys.{is_key, is_value};
 ghost use Rattle.fw_op.specs.Words.{client_word};
-ghost use Rattle.fw_op.specs.Ops.{op_words, op_fits};
+ghost use Rattle.fw_op.specs.Ops.{op_words, op_fits, AreOfKeyedOp};
+ghost use Rattle.fw_op.specs.Parts.{plain_op};
 
 use crate::Op;
 use crate::keys::{is_key, is_value};
+use crate::parts::OpParts;
 use crate::words::{Words, client_of};
-use fw_base::{Bytes, Memory};
+use fw_list::Memory;
 use std::alloc::Global;
 
 /// The key that is left.
@@ -83,107 +87,97 @@ fn key_and_client<'a>(words: &mut Words<'a>, clients: u32) -> Option<(&'a [u8], 
 }
 
 /// The operation whose first word is `put`.
-fn put_of(alloc: Global, clients: u32, words: &mut Words<'_>) -> Result<Option<Op>, Memory>
-    ensures found { IfOk result (λ found. IfSome found (λ op. (codes "put" ∷ words.old ≡ op_words op) × IsTrue (op_fits clients op))) }
-    ensures none { IfOk result (λ found. IfNone found ((op : Op) → IsTrue (op_fits clients op) → codes "put" ∷ words.old ≢ op_words op)) }
+fn put_of<'a>(clients: u32, words: &mut Words<'a>) -> Option<OpParts<'a>>
+    ensures found { IfSome result (λ parts. (codes "put" ∷ words.old ≡ op_words (plain_op parts)) × IsTrue (op_fits clients (plain_op parts))) }
+    ensures none { IfNone result ((op : Op) → IsTrue (op_fits clients op) → codes "put" ∷ words.old ≢ op_words op) }
 {
     let Some((key, value)) = key_and_value(words) else {
-        return Ok(None);
+        return None;
     };
-    Ok(Some(Op::Put {
-        key: Bytes::copy_of(alloc, key)?,
-        value: Bytes::copy_of(alloc, value)?,
-    }))
+    Some(OpParts::Put { key, value })
 }
 
 /// The operation whose first word is `get`.
-fn get_of(alloc: Global, clients: u32, words: &mut Words<'_>) -> Result<Option<Op>, Memory>
-    ensures found { IfOk result (λ found. IfSome found (λ op. (codes "get" ∷ words.old ≡ op_words op) × IsTrue (op_fits clients op))) }
-    ensures none { IfOk result (λ found. IfNone found ((op : Op) → IsTrue (op_fits clients op) → codes "get" ∷ words.old ≢ op_words op)) }
+fn get_of<'a>(clients: u32, words: &mut Words<'a>) -> Option<OpParts<'a>>
+    ensures found { IfSome result (λ parts. (codes "get" ∷ words.old ≡ op_words (plain_op parts)) × IsTrue (op_fits clients (plain_op parts))) }
+    ensures none { IfNone result ((op : Op) → IsTrue (op_fits clients op) → codes "get" ∷ words.old ≢ op_words op) }
 {
     let Some((owner, key)) = client_and_key(words, clients) else {
-        return Ok(None);
+        return None;
     };
-    Ok(Some(Op::Get {
-        owner,
-        key: Bytes::copy_of(alloc, key)?,
-    }))
+    Some(OpParts::Get { owner, key })
 }
 
 /// The operation whose first word is `del`.
-fn del_of(alloc: Global, clients: u32, words: &mut Words<'_>) -> Result<Option<Op>, Memory>
-    ensures found { IfOk result (λ found. IfSome found (λ op. (codes "del" ∷ words.old ≡ op_words op) × IsTrue (op_fits clients op))) }
-    ensures none { IfOk result (λ found. IfNone found ((op : Op) → IsTrue (op_fits clients op) → codes "del" ∷ words.old ≢ op_words op)) }
+fn del_of<'a>(clients: u32, words: &mut Words<'a>) -> Option<OpParts<'a>>
+    ensures found { IfSome result (λ parts. (codes "del" ∷ words.old ≡ op_words (plain_op parts)) × IsTrue (op_fits clients (plain_op parts))) }
+    ensures none { IfNone result ((op : Op) → IsTrue (op_fits clients op) → codes "del" ∷ words.old ≢ op_words op) }
 {
     let Some(key) = only_key(words) else {
-        return Ok(None);
+        return None;
     };
-    Ok(Some(Op::Del {
-        key: Bytes::copy_of(alloc, key)?,
-    }))
+    Some(OpParts::Del { key })
 }
 
 /// The operation whose first word is `cas`.
-fn cas_of(alloc: Global, clients: u32, words: &mut Words<'_>) -> Result<Option<Op>, Memory>
-    ensures found { IfOk result (λ found. IfSome found (λ op. (codes "cas" ∷ words.old ≡ op_words op) × IsTrue (op_fits clients op))) }
-    ensures none { IfOk result (λ found. IfNone found ((op : Op) → IsTrue (op_fits clients op) → codes "cas" ∷ words.old ≢ op_words op)) }
+fn cas_of<'a>(clients: u32, words: &mut Words<'a>) -> Option<OpParts<'a>>
+    ensures found { IfSome result (λ parts. (codes "cas" ∷ words.old ≡ op_words (plain_op parts)) × IsTrue (op_fits clients (plain_op parts))) }
+    ensures none { IfNone result ((op : Op) → IsTrue (op_fits clients op) → codes "cas" ∷ words.old ≢ op_words op) }
 {
     let Some((key, old, new)) = key_and_values(words) else {
-        return Ok(None);
+        return None;
     };
-    Ok(Some(Op::Cas {
-        key: Bytes::copy_of(alloc, key)?,
-        old: Bytes::copy_of(alloc, old)?,
-        new: Bytes::copy_of(alloc, new)?,
-    }))
+    Some(OpParts::Cas { key, old, new })
 }
 
 /// The operation whose first word is `grant`.
-fn grant_of(alloc: Global, clients: u32, words: &mut Words<'_>) -> Result<Option<Op>, Memory>
-    ensures found { IfOk result (λ found. IfSome found (λ op. (codes "grant" ∷ words.old ≡ op_words op) × IsTrue (op_fits clients op))) }
-    ensures none { IfOk result (λ found. IfNone found ((op : Op) → IsTrue (op_fits clients op) → codes "grant" ∷ words.old ≢ op_words op)) }
+fn grant_of<'a>(clients: u32, words: &mut Words<'a>) -> Option<OpParts<'a>>
+    ensures found { IfSome result (λ parts. (codes "grant" ∷ words.old ≡ op_words (plain_op parts)) × IsTrue (op_fits clients (plain_op parts))) }
+    ensures none { IfNone result ((op : Op) → IsTrue (op_fits clients op) → codes "grant" ∷ words.old ≢ op_words op) }
 {
     let Some((key, client)) = key_and_client(words, clients) else {
-        return Ok(None);
+        return None;
     };
-    Ok(Some(Op::Grant {
-        key: Bytes::copy_of(alloc, key)?,
-        client,
-    }))
+    Some(OpParts::Grant { key, client })
 }
 
 /// The operation whose first word is `revoke`.
-fn revoke_of(alloc: Global, clients: u32, words: &mut Words<'_>) -> Result<Option<Op>, Memory>
-    ensures found { IfOk result (λ found. IfSome found (λ op. (codes "revoke" ∷ words.old ≡ op_words op) × IsTrue (op_fits clients op))) }
-    ensures none { IfOk result (λ found. IfNone found ((op : Op) → IsTrue (op_fits clients op) → codes "revoke" ∷ words.old ≢ op_words op)) }
+fn revoke_of<'a>(clients: u32, words: &mut Words<'a>) -> Option<OpParts<'a>>
+    ensures found { IfSome result (λ parts. (codes "revoke" ∷ words.old ≡ op_words (plain_op parts)) × IsTrue (op_fits clients (plain_op parts))) }
+    ensures none { IfNone result ((op : Op) → IsTrue (op_fits clients op) → codes "revoke" ∷ words.old ≢ op_words op) }
 {
     let Some((key, client)) = key_and_client(words, clients) else {
-        return Ok(None);
+        return None;
     };
-    Ok(Some(Op::Revoke {
-        key: Bytes::copy_of(alloc, key)?,
-        client,
-    }))
+    Some(OpParts::Revoke { key, client })
 }
 
 /// The operation that the words are, where there are so many clients.
-pub(crate) fn op_of(
-    alloc: Global,
-    clients: u32,
-    words: &mut Words<'_>,
-) -> Result<Option<Op>, Memory>
-    ensures found { IfOk result (λ found. IfSome found (λ op. (words.old ≡ op_words op) × IsTrue (op_fits clients op))) }
-    ensures none { IfOk result (λ found. IfNone found ((op : Op) → IsTrue (op_fits clients op) → words.old ≢ op_words op)) }
+fn parts_of<'a>(clients: u32, words: &mut Words<'a>) -> Option<OpParts<'a>>
+    ensures found { IfSome result (λ parts. (words.old ≡ op_words (plain_op parts)) × IsTrue (op_fits clients (plain_op parts))) }
+    ensures none { IfNone result ((op : Op) → IsTrue (op_fits clients op) → words.old ≢ op_words op) }
 {
     match words.next() {
-        Some("put") => put_of(alloc, clients, words),
-        Some("get") => get_of(alloc, clients, words),
-        Some("del") => del_of(alloc, clients, words),
-        Some("cas") => cas_of(alloc, clients, words),
-        Some("grant") => grant_of(alloc, clients, words),
-        Some("revoke") => revoke_of(alloc, clients, words),
-        Some("count") => Ok(words.end_with(Op::Count)),
-        Some("keys") => Ok(words.end_with(Op::Keys)),
-        _ => Ok(None),
+        Some("put") => put_of(clients, words),
+        Some("get") => get_of(clients, words),
+        Some("del") => del_of(clients, words),
+        Some("cas") => cas_of(clients, words),
+        Some("grant") => grant_of(clients, words),
+        Some("revoke") => revoke_of(clients, words),
+        Some("count") => words.end_with(OpParts::Count),
+        Some("keys") => words.end_with(OpParts::Keys),
+        _ => None,
     }
+}
+
+/// The operation that the words are, where there are so many clients.
+pub(crate) fn op_of(alloc: Global, clients: u32, mut words: Words<'_>) -> Result<Option<Op>, Memory>
+    ensures found { IfOk result (λ found. IfSome found (λ op. (words.entry ≡ op_words op) × IsTrue (op_fits clients op))) }
+    ensures none { IfOk result (λ found. IfNone found ((op : Op) → IsTrue (op_fits clients op) → words.entry ≢ op_words op)) }
+    ensures memory { OnErr result (AreOfKeyedOp clients words.entry) }
+{
+    let Some(parts) = parts_of(clients, &mut words) else {
+        return Ok(None);
+    };
+    Ok(Some(parts.own(alloc)?))
 }

@@ -1,10 +1,13 @@
+//! Bytes read from the front: clients, keys, values.
+
 use crate::keys::{is_key, is_value};
+use fw_wire::Reader as Fields;
 use std::marker::Model;
 
-/// Bytes that are read from the front.
+/// Bytes that are read from the front, by fields.
 #[derive(Drop)]
 pub(crate) struct Reader<'a> {
-    rest: &'a [u8],
+    fields: Fields<'a>,
 }
 
 impl<'a> Model for Reader<'a> {
@@ -12,7 +15,7 @@ impl<'a> Model for Reader<'a> {
 
     ghost Value = { List ℕ };
 
-    ghost view = { λ r. r.rest.now };
+    ghost view = { λ r. r.fields };
 }
 
 impl<'a> Reader<'a> {
@@ -24,50 +27,55 @@ impl<'a> Reader<'a> {
     pub(crate) fn new(bytes: &'a [u8]) -> Self
         ensures { result ≡ bytes.now }
     {
-        Reader { rest: bytes }
+        Reader {
+            fields: Fields::new(bytes),
+        }
+    }
+
+    /// The same bytes once more.
+    pub(crate) fn again(&self) -> Reader<'a>
+        ensures { result ≡ self.now }
+    {
+        Reader {
+            fields: self.fields.again(),
+        }
     }
 
     /// Takes so many bytes.
     pub(crate) fn fixed(&mut self, len: usize) -> Option<&'a [u8]>
         ensures { MatchOption result ((length self.old < len) × (self.new ≡ self.old)) (λ part. (self.old ≡ part.now ++ self.new) × (length part.now ≡ len)) }
     {
-        if self.rest.len() < len {
-            return None;
-        }
-        let (part, rest) = self.rest.split_at(len);
-        self.rest = rest;
-        Some(part)
+        self.fields.fixed(len)
     }
 
     /// Whether no byte is left.
     pub(crate) fn is_empty(&self) -> bool
         ensures { IsTrue result ↔ (self.now ≡ []) }
     {
-        self.rest.is_empty()
+        self.fields.is_empty()
     }
 
     /// Takes one byte.
     pub(crate) fn byte(&mut self) -> Option<u8>
         ensures { MatchOption result (self.old ≡ []) (λ b. self.old ≡ b ∷ self.new) }
     {
-        let part = self.fixed(1)?;
-        Some(part[0])
+        self.fields.u8()
     }
 
     /// Takes a number of two bytes.
+    #[tactic(auto, unfolding(fw_list::specs::Numbers::u16))]
     fn double(&mut self) -> Option<u16>
         ensures { MatchOption result (length self.old < 2) (λ n. (self.old ≡ to_be_bytes w16 n ++ self.new) × (n < 2 ^ 16)) }
     {
-        let part = self.fixed(2)?;
-        Some(u16::from_be_bytes([part[0], part[1]]))
+        self.fields.u16()
     }
 
     /// Takes a number of four bytes.
+    #[tactic(auto, unfolding(fw_list::specs::Numbers::u32))]
     fn quadruple(&mut self) -> Option<u32>
         ensures { MatchOption result (length self.old < 4) (λ n. self.old ≡ to_be_bytes w32 n ++ self.new) }
     {
-        let part = self.fixed(4)?;
-        Some(u32::from_be_bytes([part[0], part[1], part[2], part[3]]))
+        self.fields.u32()
     }
 
     /// Takes a client of 8.

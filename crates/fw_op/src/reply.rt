@@ -1,12 +1,15 @@
-ghost use Rattle.std.specs.Prelude.{◌≡◌, ◌≢◌, ◌≤◌, ◌++◌, List, length, Some, IfOk, OnOk, IfSome, IfNone, IsTrue};
-ghost use Rattle.fw_op.specs.Replies.{reply_words, reply_text, reply_bytes, reply_fits, has_bytes, IsReplyText, IsReplyBytes};
+//! Replies: read from words and from bytes, and written in both.
+
+ghost use Rattle.std.specs.Prelude.{◌≡◌, ◌≢◌, ◌≤◌, ◌++◌, List, [], length, Some, IfOk, OnOk, OnErr, IfSome, IfNone, IsTrue};
+ghost use Rattle.fw_list.specs.declared.limits.TheConstants.{LONGEST_TEXT};
+ghost use Rattle.fw_op.specs.Replies.{reply_words, reply_text, reply_bytes, reply_fits, has_bytes, is_telling, IsReplyText, IsReplyBytes, AreOfTellingReply, IsTellingText, AreOfTelling};
 
 use crate::encoding::{add_all_names, add_value};
 use crate::reply_bytes::reply_in;
 use crate::reply_words::reply_of;
 use crate::words::Words;
 use crate::writing::{add_keys, add_number, add_word};
-use fw_base::{Bytes, Items, Memory};
+use fw_list::{Bytes, Items, Memory};
 use std::alloc::Global;
 
 /// The name of a record.
@@ -64,7 +67,8 @@ fn copy_names(alloc: Global, names: &[Name]) -> Result<Names, Memory>
 impl Reply {
     /// The same reply.
     pub fn copy(&self, alloc: Global) -> Result<Reply, Memory>
-        ensures { IfOk result (λ reply. reply ≡ self.now) }
+        ensures ok { IfOk result (λ reply. reply ≡ self.now) }
+        ensures memory { OnErr result (IsTrue (is_telling self.now)) }
     {
         match self {
             Reply::Done => Ok(Reply::Done),
@@ -83,7 +87,7 @@ impl Reply {
         }
     }
 
-    /// The reply that the words are, where there are so many clients, or none.
+    /// The reply that all words that are left are, where there are so many clients, or none. No word is left then.
     pub fn from_words(
         alloc: Global,
         clients: u32,
@@ -91,14 +95,17 @@ impl Reply {
     ) -> Result<Option<Reply>, Memory>
         ensures found { IfOk result (λ found. IfSome found (λ reply. (words.old ≡ reply_words reply) × IsTrue (reply_fits clients reply))) }
         ensures none { IfOk result (λ found. IfNone found ((reply : Reply) → IsTrue (reply_fits clients reply) → words.old ≢ reply_words reply)) }
+        ensures memory { OnErr result (AreOfTellingReply clients words.old) }
+        ensures left { words.new ≡ [] }
     {
-        reply_of(alloc, clients, words)
+        reply_of(alloc, clients, &mut words.all())
     }
 
     /// The reply of which this is the text, or none.
     pub fn read_words(alloc: Global, text: &str) -> Result<Option<Reply>, Memory>
         ensures found { IfOk result (λ found. IfSome found (λ reply. IsReplyText text.now reply)) }
         ensures each { IfOk result (λ found. (reply : Reply) → IsReplyText text.now reply → found ≡ Some reply) }
+        ensures memory { OnErr result (IsTellingText text.now) }
     {
         let mut words = Words::of(text);
         reply_of(alloc, 8, &mut words)
@@ -108,6 +115,7 @@ impl Reply {
     pub fn read_bytes(alloc: Global, bytes: &[u8]) -> Result<Option<Reply>, Memory>
         ensures found { IfOk result (λ found. IfSome found (λ reply. IsReplyBytes bytes.now reply)) }
         ensures each { IfOk result (λ found. (reply : Reply) → IsReplyBytes bytes.now reply → found ≡ Some reply) }
+        ensures memory { OnErr result (AreOfTelling bytes.now) }
     {
         reply_in(alloc, bytes)
     }
@@ -177,7 +185,7 @@ impl Reply {
         requires fits { IsTrue (reply_fits 8 self.now) }
         requires said { IsTrue (has_bytes self.now) }
         ensures spelled { IfOk result (λ bytes. bytes ≡ reply_bytes self.now) }
-        ensures short { IfOk result (λ bytes. length bytes ≤ 510) }
+        ensures short { IfOk result (λ bytes. length bytes ≤ LONGEST_TEXT) }
     {
         let mut bytes = Bytes::new(alloc);
         self.encode(&mut bytes)?;

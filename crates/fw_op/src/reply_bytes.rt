@@ -1,27 +1,54 @@
-ghost use Rattle.std.specs.Prelude.{◌≡◌, ◌≢◌, ◌<◌, ◌≤◌, ◌++◌, List, ℕ, [], ◌∷◌, length, IfOk, IfSome, IfNone, IsTrue};
-ghost use Rattle.std.specs.List.{list_all, flat_map};
-ghost use Rattle.fw_op.specs.Replies.{name_bytes, name_fits, names_fit, reply_bytes, reply_fits, has_bytes, IsReplyBytes};
+//! Replies read from bytes.
 
+ghost use Rattle.std.specs.Prelude.{◌≡◌, ◌≢◌, ◌↔◌, ◌<◌, ◌≤◌, ◌++◌, List, ℕ, [], ◌∷◌, length, IfOk, OnErr, IfSome, IfNone, IsTrue};
+ghost use Rattle.std.specs.List.{list_all, flat_map};
+ghost use Rattle.fw_op.specs.Replies.{name_bytes, name_fits, names_fit, reply_bytes, reply_fits, has_bytes, IsReplyBytes, AreOfTelling, AreNames, AreCountedNames};
+ghost use Rattle.fw_op.specs.Parts.{plain_name};
+
+use crate::parts::NameParts;
 use crate::reader::Reader;
-use crate::{Name, Names, Reply};
-use fw_base::{Bytes, Memory};
+use crate::{MOST_NAMES, Name, Names, Reply};
+use fw_list::{Bytes, Memory};
 use std::alloc::Global;
 
 /// Takes the name of a record.
-fn name_in(alloc: Global, reader: &mut Reader<'_>) -> Result<Option<Name>, Memory>
-    ensures found { IfOk result (λ found. IfSome found (λ n. (reader.old ≡ name_bytes n ++ reader.new) × IsTrue (name_fits 8 n))) }
-    ensures none { IfOk result (λ found. IfNone found ((n : Name) (rest : List ℕ) → IsTrue (name_fits 8 n) → reader.old ≢ name_bytes n ++ rest)) }
+fn name_in<'a>(reader: &mut Reader<'a>) -> Option<NameParts<'a>>
+    ensures found { IfSome result (λ n. (reader.old ≡ name_bytes (plain_name n) ++ reader.new) × IsTrue (name_fits 8 (plain_name n))) }
+    ensures none { IfNone result ((n : Name) (rest : List ℕ) → IsTrue (name_fits 8 n) → reader.old ≢ name_bytes n ++ rest) }
 {
     let Some(owner) = reader.client() else {
-        return Ok(None);
+        return None;
     };
     let Some(key) = reader.key() else {
-        return Ok(None);
+        return None;
     };
-    Ok(Some(Name {
-        owner,
-        key: Bytes::copy_of(alloc, key)?,
-    }))
+    Some(NameParts { owner, key })
+}
+
+/// Whether so many names are left, and nothing else.
+fn are_names(reader: &mut Reader<'_>, count: u8) -> bool
+    ensures { IsTrue result ↔ AreNames count reader.old }
+{
+    for _ in 0..count {
+        match name_in(reader) {
+            Some(_) => {}
+            None => return false,
+        }
+    }
+    reader.is_empty()
+}
+
+/// Whether names are left, after their count, and nothing else.
+fn has_names(reader: &mut Reader<'_>) -> bool
+    ensures { IsTrue result ↔ AreCountedNames reader.old }
+{
+    let Some(count) = reader.byte() else {
+        return false;
+    };
+    if count as usize > MOST_NAMES {
+        return false;
+    }
+    are_names(reader, count)
 }
 
 /// Takes so many names.
@@ -31,8 +58,8 @@ fn some_names(alloc: Global, reader: &mut Reader<'_>, count: u8) -> Result<Optio
 {
     let mut names = Names::new(alloc);
     for _ in 0..count {
-        match name_in(alloc, reader)? {
-            Some(name) => names.push(name)?,
+        match name_in(reader) {
+            Some(name) => names.push(name.own(alloc)?)?,
             None => return Ok(None),
         }
     }
@@ -47,7 +74,7 @@ fn last_names(alloc: Global, reader: &mut Reader<'_>) -> Result<Option<Names>, M
     let Some(count) = reader.byte() else {
         return Ok(None);
     };
-    if count > 24 {
+    if count as usize > MOST_NAMES {
         return Ok(None);
     }
     let Some(names) = some_names(alloc, reader, count)? else {
@@ -60,10 +87,23 @@ fn last_names(alloc: Global, reader: &mut Reader<'_>) -> Result<Option<Names>, M
     }
 }
 
+/// The names that are left, after their count, of which all is looked at before anything is copied.
+fn names_in(alloc: Global, reader: &mut Reader<'_>) -> Result<Option<Names>, Memory>
+    ensures found { IfOk result (λ found. IfSome found (λ names. (reader.old ≡ length names ∷ flat_map name_bytes names) × IsTrue (names_fit 8 names))) }
+    ensures none { IfOk result (λ found. IfNone found ((names : List Name) → IsTrue (names_fit 8 names) → reader.old ≢ length names ∷ flat_map name_bytes names)) }
+    ensures memory { OnErr result (AreCountedNames reader.old) }
+{
+    if !has_names(&mut reader.again()) {
+        return Ok(None);
+    }
+    last_names(alloc, reader)
+}
+
 /// The reply of kind 2.
 fn value_in(alloc: Global, reader: &mut Reader<'_>) -> Result<Option<Reply>, Memory>
     ensures found { IfOk result (λ found. IfSome found (λ reply. (2 ∷ reader.old ≡ reply_bytes reply) × IsTrue (reply_fits 8 reply) × IsTrue (has_bytes reply))) }
     ensures none { IfOk result (λ found. IfNone found ((reply : Reply) → IsTrue (reply_fits 8 reply) → 2 ∷ reader.old ≢ reply_bytes reply)) }
+    ensures memory { OnErr result (AreOfTelling (2 ∷ reader.old)) }
 {
     let Some(value) = reader.last_value() else {
         return Ok(None);
@@ -88,8 +128,9 @@ fn count_in(reader: &mut Reader<'_>) -> Option<Reply>
 fn keys_in(alloc: Global, reader: &mut Reader<'_>) -> Result<Option<Reply>, Memory>
     ensures found { IfOk result (λ found. IfSome found (λ reply. (6 ∷ reader.old ≡ reply_bytes reply) × IsTrue (reply_fits 8 reply) × IsTrue (has_bytes reply))) }
     ensures none { IfOk result (λ found. IfNone found ((reply : Reply) → IsTrue (reply_fits 8 reply) → 6 ∷ reader.old ≢ reply_bytes reply)) }
+    ensures memory { OnErr result (AreOfTelling (6 ∷ reader.old)) }
 {
-    match last_names(alloc, reader)? {
+    match names_in(alloc, reader)? {
         Some(names) => Ok(Some(Reply::Keys { names })),
         None => Ok(None),
     }
@@ -99,6 +140,7 @@ fn keys_in(alloc: Global, reader: &mut Reader<'_>) -> Result<Option<Reply>, Memo
 pub(crate) fn reply_in(alloc: Global, bytes: &[u8]) -> Result<Option<Reply>, Memory>
     ensures found { IfOk result (λ found. IfSome found (λ reply. IsReplyBytes bytes.now reply)) }
     ensures none { IfOk result (λ found. IfNone found ((reply : Reply) → ¬ IsReplyBytes bytes.now reply)) }
+    ensures memory { OnErr result (AreOfTelling bytes.now) }
 {
     let mut reader = Reader::new(bytes);
     match reader.byte() {

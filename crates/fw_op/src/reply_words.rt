@@ -1,12 +1,16 @@
-ghost use Rattle.std.specs.Prelude.{◌≡◌, ◌≢◌, ◌<◌, ◌^◌, ◌++◌, List, ℕ, [], ◌∷◌, codes, map, IfOk, IfSome, IfNone, MatchOption, IsTrue};
+//! Replies read from words.
+
+ghost use Rattle.std.specs.Prelude.{◌≡◌, ◌≢◌, ◌↔◌, ◌<◌, ◌^◌, ◌++◌, List, ℕ, [], ◌∷◌, codes, map, IfOk, OnErr, IfSome, IfNone, MatchOption, IsTrue};
 ghost use Rattle.fw_op.specs.Keys.{is_value};
 ghost use Rattle.fw_op.specs.Words.{client_word};
-ghost use Rattle.fw_op.specs.Replies.{name_word, name_fits, names_fit, reply_words, reply_fits};
+ghost use Rattle.fw_op.specs.Replies.{name_word, name_fits, names_fit, reply_words, reply_fits, AreNameWords, AreOfTellingReply};
+ghost use Rattle.fw_op.specs.Parts.{plain_name};
 
 use crate::keys::{is_key, is_value};
+use crate::parts::NameParts;
 use crate::words::{Words, client_of, number_of};
-use crate::{Name, Names, Reply};
-use fw_base::{Bytes, Memory};
+use crate::{MOST_NAMES, Name, Names, Reply};
+use fw_list::{Bytes, Memory};
 use std::alloc::Global;
 
 /// The parts before and after the first slash.
@@ -18,41 +22,70 @@ fn parts_of(word: &str) -> Option<(&str, &str)>
 }
 
 /// The name of a record that the word is.
-fn name_of(alloc: Global, clients: u32, word: &str) -> Result<Option<Name>, Memory>
-    ensures found { IfOk result (λ found. IfSome found (λ n. (word.now ≡ name_word n) × IsTrue (name_fits clients n))) }
-    ensures none { IfOk result (λ found. IfNone found ((n : Name) → IsTrue (name_fits clients n) → word.now ≢ name_word n)) }
+fn name_of<'a>(clients: u32, word: &'a str) -> Option<NameParts<'a>>
+    ensures found { IfSome result (λ n. (word.now ≡ name_word (plain_name n)) × IsTrue (name_fits clients (plain_name n))) }
+    ensures none { IfNone result ((n : Name) → IsTrue (name_fits clients n) → word.now ≢ name_word n) }
 {
     let Some((owner, key)) = parts_of(word) else {
-        return Ok(None);
+        return None;
     };
     let Some(owner) = client_of(owner, clients) else {
-        return Ok(None);
+        return None;
     };
     if !is_key(key.as_bytes()) {
-        return Ok(None);
+        return None;
     }
-    Ok(Some(Name {
+    Some(NameParts {
         owner,
-        key: Bytes::copy_of(alloc, key.as_bytes())?,
-    }))
+        key: key.as_bytes(),
+    })
+}
+
+/// Whether the words that are left are names.
+fn are_names(clients: u32, words: &mut Words<'_>) -> bool
+    ensures { IsTrue result ↔ AreNameWords clients words.old }
+{
+    let mut count: usize = 0;
+    while let Some(word) = words.next() {
+        if count == MOST_NAMES {
+            return false;
+        }
+        match name_of(clients, word) {
+            Some(_) => count += 1,
+            None => return false,
+        }
+    }
+    true
 }
 
 /// The names that are left.
-fn names_of(alloc: Global, clients: u32, words: &mut Words<'_>) -> Result<Option<Names>, Memory>
+fn read_names(alloc: Global, clients: u32, words: &mut Words<'_>) -> Result<Option<Names>, Memory>
     ensures found { IfOk result (λ found. IfSome found (λ names. (words.old ≡ map name_word names) × IsTrue (names_fit clients names))) }
     ensures none { IfOk result (λ found. IfNone found ((names : List Name) → IsTrue (names_fit clients names) → words.old ≢ map name_word names)) }
 {
     let mut names = Names::new(alloc);
     while let Some(word) = words.next() {
-        if names.len() == 24 {
+        if names.len() == MOST_NAMES {
             return Ok(None);
         }
-        match name_of(alloc, clients, word)? {
-            Some(name) => names.push(name)?,
+        match name_of(clients, word) {
+            Some(name) => names.push(name.own(alloc)?)?,
             None => return Ok(None),
         }
     }
     Ok(Some(names))
+}
+
+/// The names that are left, of which all are looked at before anything is copied.
+fn names_of(alloc: Global, clients: u32, words: &mut Words<'_>) -> Result<Option<Names>, Memory>
+    ensures found { IfOk result (λ found. IfSome found (λ names. (words.old ≡ map name_word names) × IsTrue (names_fit clients names))) }
+    ensures none { IfOk result (λ found. IfNone found ((names : List Name) → IsTrue (names_fit clients names) → words.old ≢ map name_word names)) }
+    ensures memory { OnErr result (AreNameWords clients words.old) }
+{
+    if !are_names(clients, &mut words.again()) {
+        return Ok(None);
+    }
+    read_names(alloc, clients, words)
 }
 
 /// The value that is left.
@@ -68,6 +101,7 @@ fn value_of<'a>(words: &mut Words<'a>) -> Option<&'a [u8]>
 fn given(alloc: Global, clients: u32, words: &mut Words<'_>) -> Result<Option<Reply>, Memory>
     ensures found { IfOk result (λ found. IfSome found (λ reply. (codes "value" ∷ words.old ≡ reply_words reply) × IsTrue (reply_fits clients reply))) }
     ensures none { IfOk result (λ found. IfNone found ((reply : Reply) → IsTrue (reply_fits clients reply) → codes "value" ∷ words.old ≢ reply_words reply)) }
+    ensures memory { OnErr result (AreOfTellingReply clients (codes "value" ∷ words.old)) }
 {
     let Some(value) = value_of(words) else {
         return Ok(None);
@@ -91,6 +125,7 @@ fn counted(clients: u32, words: &mut Words<'_>) -> Option<Reply>
 fn listed(alloc: Global, clients: u32, words: &mut Words<'_>) -> Result<Option<Reply>, Memory>
     ensures found { IfOk result (λ found. IfSome found (λ reply. (codes "keys" ∷ words.old ≡ reply_words reply) × IsTrue (reply_fits clients reply))) }
     ensures none { IfOk result (λ found. IfNone found ((reply : Reply) → IsTrue (reply_fits clients reply) → codes "keys" ∷ words.old ≢ reply_words reply)) }
+    ensures memory { OnErr result (AreOfTellingReply clients (codes "keys" ∷ words.old)) }
 {
     match names_of(alloc, clients, words)? {
         Some(names) => Ok(Some(Reply::Keys { names })),
@@ -106,6 +141,7 @@ pub(crate) fn reply_of(
 ) -> Result<Option<Reply>, Memory>
     ensures found { IfOk result (λ found. IfSome found (λ reply. (words.old ≡ reply_words reply) × IsTrue (reply_fits clients reply))) }
     ensures none { IfOk result (λ found. IfNone found ((reply : Reply) → IsTrue (reply_fits clients reply) → words.old ≢ reply_words reply)) }
+    ensures memory { OnErr result (AreOfTellingReply clients words.old) }
 {
     match words.next() {
         Some("done") => Ok(words.end_with(Reply::Done)),

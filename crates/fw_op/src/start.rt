@@ -1,6 +1,8 @@
+//! Records.
+
 ghost use Rattle.std.specs.Prelude.{◌≡◌, List, ℕ, IfOk};
 
-use fw_base::{Bytes, Items, Memory};
+use fw_list::{Bytes, Items, Memory};
 use std::alloc::Global;
 
 /// Clients by number, ascending, none twice.

@@ -1,3 +1,5 @@
+//! The words of a text, and the numbers and clients that words name.
+
 ghost use Rattle.std.specs.Prelude.{◌≢◌, ◌≡◌, ◌≤◌, ◌<◌, ℕ, decimal, IfSome, IfNone};
 ghost use Rattle.fw_op.specs.Words.{client_word};
 
@@ -21,7 +23,7 @@ impl<'a> Model for Words<'a> {
 }
 
 impl<'a> Words<'a> {
-    ghost use Rattle.std.specs.Prelude.{◌≡◌, ◌≢◌, ◌↔◌, List, ℕ, [], ◌∷◌, IfSome, IfNone, MatchOption, IsTrue};
+    ghost use Rattle.std.specs.Prelude.{◌≡◌, ◌≢◌, ◌↔◌, List, ℕ, [], ◌∷◌, drop, IfSome, IfNone, MatchOption, IsTrue};
     ghost use Rattle.fw_op.specs.Words.{words_of};
 
     /// All words of a text.
@@ -53,9 +55,30 @@ impl<'a> Words<'a> {
         }
     }
 
+    /// The same words once more.
+    pub(crate) fn again(&self) -> Words<'a>
+        ensures { result ≡ self.now }
+    {
+        Words {
+            rest: self.rest,
+            is_done: self.is_done,
+        }
+    }
+
+    /// Takes all words that are left.
+    pub(crate) fn all(&mut self) -> Words<'a>
+        ensures same { result ≡ self.old }
+        ensures left { self.new ≡ [] }
+    {
+        let all = self.again();
+        self.is_done = true;
+        all
+    }
+
     /// Whether no word is left. A word that is left is taken.
-    pub fn has_ended(&mut self) -> bool
-        ensures { IsTrue result ↔ (self.old ≡ []) }
+    pub(crate) fn has_ended(&mut self) -> bool
+        ensures ended { IsTrue result ↔ (self.old ≡ []) }
+        ensures left { self.new ≡ drop 1 self.old }
     {
         match self.next() {
             Some(_) => false,
@@ -71,9 +94,10 @@ impl<'a> Words<'a> {
         if self.has_ended() { Some(item) } else { None }
     }
 
-    /// The one word that is left.
+    /// The one word that is left. Where there are more, two are taken.
     pub fn only_word(&mut self) -> Option<&'a str>
-        ensures { MatchOption result ((a : List ℕ) → self.old ≢ a ∷ []) (λ word. self.old ≡ word.now ∷ []) }
+        ensures left { self.new ≡ drop 2 self.old }
+        ensures word { MatchOption result ((a : List ℕ) → self.old ≢ a ∷ []) (λ word. self.old ≡ word.now ∷ []) }
     {
         let word = self.next()?;
         match self.next() {
@@ -82,9 +106,10 @@ impl<'a> Words<'a> {
         }
     }
 
-    /// The two words that are left.
-    pub fn two_words(&mut self) -> Option<(&'a str, &'a str)>
-        ensures { MatchOption result ((a b : List ℕ) → self.old ≢ a ∷ b ∷ []) (λ pair. self.old ≡ pair.0.now ∷ pair.1.now ∷ []) }
+    /// The two words that are left. Where there are more, three are taken.
+    pub(crate) fn two_words(&mut self) -> Option<(&'a str, &'a str)>
+        ensures left { self.new ≡ drop 3 self.old }
+        ensures words { MatchOption result ((a b : List ℕ) → self.old ≢ a ∷ b ∷ []) (λ pair. self.old ≡ pair.0.now ∷ pair.1.now ∷ []) }
     {
         let first = self.next()?;
         match self.only_word() {
@@ -93,9 +118,10 @@ impl<'a> Words<'a> {
         }
     }
 
-    /// The three words that are left.
-    pub fn three_words(&mut self) -> Option<(&'a str, &'a str, &'a str)>
-        ensures { MatchOption result ((a b c : List ℕ) → self.old ≢ a ∷ b ∷ c ∷ []) (λ three. self.old ≡ three.0.now ∷ three.1.now ∷ three.2.now ∷ []) }
+    /// The three words that are left. Where there are more, four are taken.
+    pub(crate) fn three_words(&mut self) -> Option<(&'a str, &'a str, &'a str)>
+        ensures left { self.new ≡ drop 4 self.old }
+        ensures words { MatchOption result ((a b c : List ℕ) → self.old ≢ a ∷ b ∷ c ∷ []) (λ three. self.old ≡ three.0.now ∷ three.1.now ∷ three.2.now ∷ []) }
     {
         let first = self.next()?;
         match self.two_words() {

@@ -1,33 +1,51 @@
-ghost use Rattle.std.specs.Prelude.{◌≡◌, [], ◌∷◌, ◌++◌, OnOk, codes, decimal, map};
+//! Words added to a text.
+
+ghost use Rattle.std.specs.Prelude.{◌≡◌, [], ◌∷◌, ◌++◌, OnOk, OnErr, codes, decimal, map};
 ghost use Rattle.std.specs.List.{flat_map};
 ghost use Rattle.fw_op.specs.Words.{sentence, following, client_word};
 ghost use Rattle.fw_op.specs.Replies.{name_word};
 
 use crate::Name;
-use fw_base::{Bytes, Memory};
+use fw_list::{Bytes, Memory};
 
-/// Adds a blank and a word. After want of memory a front of them may have been added.
+/// Adds a blank and a word.
 pub fn add_word(text: &mut Bytes, word: &[u8]) -> Result<(), Memory>
     ensures ok { OnOk result (text.new ≡ text.old ++ following (word.now ∷ [])) }
+    ensures err { OnErr result (text.new ≡ text.old) }
 {
+    let len = text.len();
     text.push(b' ')?;
-    text.append(word)
+    match text.append(word) {
+        Ok(()) => Ok(()),
+        Err(memory) => {
+            text.truncate(len);
+            Err(memory)
+        }
+    }
 }
 
-/// Adds a blank and a number. After want of memory a front of them may have been added.
+/// Adds a blank and a number.
 pub fn add_number(text: &mut Bytes, number: u32) -> Result<(), Memory>
     ensures ok { OnOk result (text.new ≡ text.old ++ following (decimal number ∷ [])) }
+    ensures err { OnErr result (text.new ≡ text.old) }
 {
-    text.push(b' ')?;
-    text.append_number(number)
+    text.append_lettered(b' ', number)
 }
 
-/// Adds a blank and a client's word. After want of memory a front of them may have been added.
+/// Adds a blank and a client's word.
 pub fn add_client(text: &mut Bytes, client: u32) -> Result<(), Memory>
     ensures ok { OnOk result (text.new ≡ text.old ++ following (client_word client ∷ [])) }
+    ensures err { OnErr result (text.new ≡ text.old) }
 {
-    text.append(b" c")?;
-    text.append_number(client)
+    let len = text.len();
+    text.push(b' ')?;
+    match text.append_lettered(b'c', client) {
+        Ok(()) => Ok(()),
+        Err(memory) => {
+            text.truncate(len);
+            Err(memory)
+        }
+    }
 }
 
 /// A blank and the name of a record.

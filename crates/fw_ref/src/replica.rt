@@ -1,15 +1,17 @@
-ghost use Rattle.std.specs.Prelude.{◌≡◌, ◌++◌, List, map, replicate, length, Some, slice_index_or, slice_set, IfOk, OnOk, OnErr};
-ghost use Rattle.fw_ref.specs.Reference.{Reference, Opened, opened, unasked, at_start, executed, step, answers};
+//! The replica, and the reference.
 
-use crate::asked::copy_reply;
+ghost use Rattle.std.specs.Prelude.{◌≡◌, ◌++◌, List, map, replicate, length, Some, slice_index_or, slice_set, IfOk, OnOk, OnErr, IsTrue};
+ghost use Rattle.fw_ref.specs.Reference.{Reference, Opened, opened, unasked, at_start, executed, step, answers, execution_wants};
+ghost use Rattle.fw_op.specs.Replies.{is_telling};
+
 use crate::{Answer, Asked};
-use fw_base::{Items, Memory};
+use fw_list::{Items, Memory};
 use fw_op::{Op, Reply};
 use fw_store::Store;
 use std::alloc::Global;
 use std::marker::Model;
 
-/// How many clients a replica keeps the last reply of.
+/// How many clients a replica keeps the last reply of: those from 0 to 7.
 const CLIENTS: usize = 8;
 
 /// The last stamp of a client that was answered, and the reply to it.
@@ -19,7 +21,8 @@ pub struct Last {
     pub reply: Reply,
 }
 
-/// A store that answers requests, each stamp of a client once.
+/// A store that answers requests, each stamp of a client once, for the clients from 0 to 7. What another client asks is
+/// executed each time.
 #[derive(Debug, Drop)]
 pub struct Replica {
     alloc: Global,
@@ -47,11 +50,14 @@ impl Replica {
         })
     }
 
-    /// Executes an operation that a client asks under a stamp, and gives the reply.
+    /// Executes an operation that a client asks under a stamp, and gives the reply. Of a client from 0 to 7 the last stamp gets
+    /// the reply that was kept, and an older one `old`: neither is executed again.
+    /// Memory is wanted only to tell a value or names, or where the store may want it; never for an older stamp.
     /// After want of memory nothing is said of the replica, and its holder uses it no more.
     pub fn execute(&mut self, client: u32, stamp: u32, op: &Op) -> Result<Reply, Memory>
         ensures reply { IfOk result (λ reply. reply ≡ (executed self.old (record { client = client; stamp = stamp; op = Some op.now })).0) }
         ensures after { OnOk result (self.new ≡ (executed self.old (record { client = client; stamp = stamp; op = Some op.now })).1) }
+        ensures memory { OnErr result (IsTrue (execution_wants self.old client stamp op.now)) }
     {
         let seen = last_stamp(self.last.as_slice(), client);
         if stamp < seen {
@@ -70,6 +76,7 @@ impl Replica {
     pub fn answer(&mut self, asked: &Asked) -> Result<Answer, Memory>
         ensures answer { IfOk result (λ answer. answer ≡ (step self.old (Some (opened asked.now))).0) }
         ensures after { OnOk result (self.new ≡ (step self.old (Some (opened asked.now))).1) }
+        ensures memory { OnErr result (IsTrue (execution_wants self.old asked.now.client asked.now.stamp asked.now.op)) }
     {
         let reply = self.execute(asked.client, asked.stamp, &asked.op)?;
         Ok(Answer {
@@ -118,11 +125,12 @@ fn last_stamp(last: &[Last], client: u32) -> u32
 
 /// The reply to the last stamp of a client.
 fn last_reply(alloc: Global, last: &[Last], client: u32) -> Result<Reply, Memory>
-    ensures { IfOk result (λ reply. reply ≡ (slice_index_or last.now client unasked).reply) }
+    ensures reply { IfOk result (λ reply. reply ≡ (slice_index_or last.now client unasked).reply) }
+    ensures memory { OnErr result (IsTrue (is_telling (slice_index_or last.now client unasked).reply)) }
 {
     match last.get(client as usize) {
         None => Ok(Reply::Null),
-        Some(last) => copy_reply(alloc, &last.reply),
+        Some(last) => last.reply.copy(alloc),
     }
 }
 
@@ -135,10 +143,11 @@ fn renew(
     reply: &Reply,
 ) -> Result<(), Memory>
     ensures ok { OnOk result (last.new.items ≡ slice_set last.old.items client (record { stamp = stamp; reply = reply.now })) }
+    ensures memory { OnErr result (IsTrue (is_telling reply.now)) }
 {
     let kept = Last {
         stamp,
-        reply: copy_reply(alloc, reply)?,
+        reply: reply.copy(alloc)?,
     };
     if (client as usize) < last.len() {
         last[client as usize] = kept;

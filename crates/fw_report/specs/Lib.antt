@@ -1,1 +1,2 @@
+-- The definitions.
 pub mod Report

@@ -1,10 +1,12 @@
+//! The lines of a report.
+
 ghost use Rattle.std.specs.Prelude.{◌≡◌, ℕ, [], ◌∷◌, ◌++◌, IfOk, OnOk, codes, decimal};
 ghost use Rattle.std.specs.List.{flat_map};
 ghost use Rattle.fw_report.specs.Report.{line, agreed_line, accept_line, cross_line, yes_or_no, report_text};
 
 use crate::words::{add_reply, add_said, add_yes_or_no};
 use crate::{AcceptLine, AgreedLine, CrossLine, Summary};
-use fw_base::{Bytes, Memory};
+use fw_list::{Bytes, Memory};
 use fw_op::{add_client, add_number, add_word};
 use std::alloc::Global;
 

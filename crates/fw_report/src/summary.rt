@@ -1,4 +1,6 @@
-use fw_base::Items;
+//! What a report tells.
+
+use fw_list::Items;
 use fw_op::{Op, Reply};
 
 /// What stands at a number of the agreed list.

@@ -1,3 +1,5 @@
+//! The words of a line.
+
 ghost use Rattle.std.specs.Prelude.{◌≡◌, ℕ, [], ◌∷◌, ◌++◌, OnOk, codes, decimal};
 ghost use Rattle.fw_op.specs.Ops.{op_words};
 ghost use Rattle.fw_op.specs.Replies.{reply_words};
@@ -5,7 +7,7 @@ ghost use Rattle.fw_op.specs.Words.{following, client_word};
 ghost use Rattle.fw_report.specs.Report.{said_words, yes_or_no};
 
 use crate::Said;
-use fw_base::{Bytes, Memory};
+use fw_list::{Bytes, Memory};
 use fw_op::{Op, Reply, add_client, add_number, add_word};
 use std::alloc::Global;
 
@@ -18,7 +20,7 @@ fn add_op(alloc: Global, text: &mut Bytes, op: &Op) -> Result<(), Memory>
 }
 
 /// The words of a reply.
-pub fn add_reply(alloc: Global, text: &mut Bytes, reply: &Reply) -> Result<(), Memory>
+pub(crate) fn add_reply(alloc: Global, text: &mut Bytes, reply: &Reply) -> Result<(), Memory>
     ensures ok { OnOk result (text.new ≡ text.old ++ following (reply_words reply.now)) }
 {
     let words = reply.words(alloc)?;
@@ -26,7 +28,7 @@ pub fn add_reply(alloc: Global, text: &mut Bytes, reply: &Reply) -> Result<(), M
 }
 
 /// The words of what stands at a number.
-pub fn add_said(
+pub(crate) fn add_said(
     alloc: Global,
     text: &mut Bytes,
     client: u32,
@@ -51,7 +53,7 @@ pub fn add_said(
 }
 
 /// A blank and `yes`, or a blank and `no`.
-pub fn add_yes_or_no(text: &mut Bytes, holds: bool) -> Result<(), Memory>
+pub(crate) fn add_yes_or_no(text: &mut Bytes, holds: bool) -> Result<(), Memory>
     ensures ok { OnOk result (text.new ≡ text.old ++ following (yes_or_no holds ∷ [])) }
 {
     if holds {

@@ -1,3 +1,4 @@
+-- The files of definitions.
 pub mod Agree
 pub mod Speeches
 pub mod World

@@ -1,4 +1,5 @@
-//! The rules of the four roles, the run of a schedule under them, and what it agreed, accepted and let down.
+//! The rules of the four roles over these messages, the world that they make, and what a trace has agreed, accepted and let
+//! down: definitions, and one law.
 #![tactic(auto)]
 
 ghost use Rattle.std.specs.Prelude.{◌≡◌, List, []};

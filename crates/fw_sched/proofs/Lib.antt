@@ -1,3 +1,5 @@
+-- The lemmas of this crate.
 pub mod Sentences
 pub mod Tables
 pub mod Submissions
+pub mod Blank

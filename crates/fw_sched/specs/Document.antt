@@ -4,9 +4,11 @@ use Rattle.std.specs.List.{list_all, list_any}
 use Rattle.std.specs.Str.{IsUtf8, bytes_eq}
 use Rattle.toml.specs.Data.{Data, string, integer, array, Items, no_items, item, Members, get_member}
 use Rattle.toml.specs.Parse.{parse_document}
+use Rattle.toml.specs.Errors.{IsBlank}
 use Rattle.hex.specs.Hex.{decode_sized}
 use Rattle.fw_base.specs.declared.params.Params.{Params}
 use Rattle.fw_base.specs.Sizes.{accepted}
+use Rattle.fw_sched.specs.declared.limits.TheConstants.{LONGEST_DOCUMENT, MOST_STEPS}
 use Rattle.fw_sched.specs.declared.plan.Plan.{Plan}
 use Rattle.fw_sched.specs.declared.plan.Step.{Step}
 use Rattle.fw_sched.specs.Steps.{step_text, step_fits, submissions_of}
@@ -78,13 +80,19 @@ pub record IsAllowed (p : Plan) : Type 0 where
   pub sizes : AreAllowed p.params
   pub steps : IsTrue (list_all (step_fits p.params) p.steps)
   pub submissions : (c : ℕ) → submissions_of c p.steps ≤ p.params.stamps
-  pub length : length p.steps ≤ 100000
+  pub length : length p.steps ≤ MOST_STEPS
 
 -- the bytes are a document of the plan
 pub record IsDocument (bytes : List ℕ) (p : Plan) : Type 0 where
-  pub short : length bytes ≤ 65536
+  pub short : length bytes ≤ LONGEST_DOCUMENT
   pub utf8 : IsUtf8 bytes
   pub members : Members
   pub parsed : parse_document bytes ≡ Some members
   pub says : Says members p
   pub allowed : IsAllowed p
+
+-- bytes that may want memory: such a text that has more than white space and comments
+pub record MayWant (bytes : List ℕ) : Type 0 where
+  pub short : length bytes ≤ LONGEST_DOCUMENT
+  pub utf8 : IsUtf8 bytes
+  pub written : ¬ IsBlank bytes

@@ -1,3 +1,4 @@
+-- The definitions that the clauses cite.
 pub mod Steps
 pub mod Sizes
 pub mod Document

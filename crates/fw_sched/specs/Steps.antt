@@ -1,11 +1,12 @@
 -- The steps of a schedule: how they are spelled, and which a deployment may have.
 use Rattle.std.specs.Prelude.{ℕ, ◌+◌, Bool, true, false, ◌&&◌, nat_eq, nat_lt, List, [], ◌∷◌, codes, decimal, if◌then◌else◌}
 use Rattle.fw_base.specs.declared.params.Params.{Params}
-use Rattle.fw_base.specs.Sizes.{within}
+use Rattle.fw_list.specs.Numbers.{within}
 use Rattle.fw_op.specs.declared.op.Op.{Op}
 use Rattle.fw_op.specs.declared.op.Op.TheVariants.{Put, Get}
 use Rattle.fw_op.specs.Words.{sentence, client_word}
 use Rattle.fw_op.specs.Ops.{op_words, op_fits}
+use Rattle.fw_sched.specs.declared.limits.TheConstants.{MOST_FLUSHED}
 use Rattle.fw_sched.specs.declared.plan.Step.{Step}
 use Rattle.fw_sched.specs.declared.plan.Step.TheVariants.{Submit, Flush}
 
@@ -26,7 +27,7 @@ is_put_or_get _ = false
 -- the step is one for a deployment of these sizes
 abbrev pub step_fits : Params → Step → Bool
 step_fits p (Submit client op) = nat_lt client p.clients && (op_fits p.clients op && is_put_or_get op)
-step_fits p (Flush most) = within 1 most 1000000
+step_fits p (Flush most) = within 1 most MOST_FLUSHED
 
 -- how often the steps submit to a client
 abbrev pub submissions_of : ℕ → List Step → ℕ

@@ -1,4 +1,7 @@
-use fw_base::{Items, Params};
+//! The plan.
+
+use fw_base::Params;
+use fw_list::Items;
 use fw_op::Op;
 
 /// A step of a schedule.

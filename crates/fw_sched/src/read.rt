@@ -1,12 +1,14 @@
-ghost use Rattle.std.specs.Prelude.{◌↔◌, codes, IfOk, IfSome, IfNone, IsTrue};
+//! The reader of a document.
+
+ghost use Rattle.std.specs.Prelude.{◌↔◌, codes, IfOk, OnErr, IfSome, IfNone, IsTrue};
 ghost use Rattle.toml.specs.Data.{no_items, array};
 ghost use Rattle.toml.specs.View.{table_view};
-ghost use Rattle.fw_sched.specs.Document.{Has, whole, HasNoOther, Says, IsAllowed, IsDocument};
+ghost use Rattle.fw_sched.specs.Document.{Has, whole, HasNoOther, Says, IsAllowed, IsDocument, MayWant};
 
-use crate::Plan;
 use crate::members::{has_no_other, is_empty_at, params_of, seed_of, whole_at};
 use crate::schedule::{are_few, steps_at};
-use fw_base::Memory;
+use crate::{LONGEST_DOCUMENT, MOST_STEPS, Plan};
+use fw_list::Memory;
 use std::alloc::Global;
 use toml::Table;
 
@@ -26,6 +28,7 @@ fn is_framed(table: &Table) -> bool
 fn plan_of(alloc: Global, table: &Table) -> Result<Option<Plan>, Memory>
     ensures found { IfOk result (λ plan. IfSome plan (λ p. Says (table_view table.now) p × IsAllowed p)) }
     ensures none { IfOk result (λ plan. IfNone plan ((p : Plan) → IsAllowed p → ¬ Says (table_view table.now) p)) }
+    ensures memory { OnErr result (Has (table_view table.now) (codes "version") (whole 1)) }
 {
     if !is_framed(table) {
         return Ok(None);
@@ -39,7 +42,7 @@ fn plan_of(alloc: Global, table: &Table) -> Result<Option<Plan>, Memory>
     let Some(steps) = steps_at(alloc, params, table)? else {
         return Ok(None);
     };
-    if steps.len() > 100_000 {
+    if steps.len() > MOST_STEPS {
         return Ok(None);
     }
     if !are_few(params, steps.items()) {
@@ -52,12 +55,14 @@ fn plan_of(alloc: Global, table: &Table) -> Result<Option<Plan>, Memory>
     }))
 }
 
-/// Reads the plan of which the bytes are a document, or answers that they are a document of none.
+/// Reads the plan of which the bytes are a document, or answers that they are a document of none. Memory is wanted only for a
+/// text of the length of a document that says something; the reader of TOML doesn't tell more than that.
 pub fn read_plan(alloc: Global, bytes: &[u8]) -> Result<Option<Plan>, Memory>
     ensures found { IfOk result (λ plan. IfSome plan (λ p. IsDocument bytes.now p)) }
     ensures none { IfOk result (λ plan. IfNone plan ((p : Plan) → ¬ IsDocument bytes.now p)) }
+    ensures memory { OnErr result (MayWant bytes.now) }
 {
-    if bytes.len() > 65_536 {
+    if bytes.len() > LONGEST_DOCUMENT {
         return Ok(None);
     }
     let Ok(text) = str::from_utf8(bytes) else {

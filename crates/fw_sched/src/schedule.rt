@@ -1,3 +1,5 @@
+//! The steps of a document.
+
 ghost use Rattle.std.specs.Prelude.{◌≡◌, ◌≢◌, ◌≤◌, ◌↔◌, ℕ, List, map, length, IfOk, IfSome, IfNone, MatchOption, IsTrue};
 ghost use Rattle.std.specs.List.{list_all};
 ghost use Rattle.toml.specs.Data.{string};
@@ -8,7 +10,8 @@ ghost use Rattle.fw_sched.specs.Steps.{step_text, step_fits, submissions_of};
 use crate::Step;
 use crate::members::array_at;
 use crate::steps::step_of;
-use fw_base::{Items, Memory, Params};
+use fw_base::Params;
+use fw_list::{Items, Memory};
 use std::alloc::Global;
 use toml::{Table, Value};
 

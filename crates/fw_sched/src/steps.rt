@@ -1,8 +1,11 @@
+//! One step in words.
+
 ghost use Rattle.std.specs.Prelude.{◌≡◌, ◌≢◌, ◌∷◌, codes, IfOk, IfSome, IfNone, IsTrue};
 ghost use Rattle.fw_sched.specs.Steps.{is_put_or_get, step_text, step_words, step_fits};
 
-use crate::Step;
-use fw_base::{Memory, Params};
+use crate::{MOST_FLUSHED, Step};
+use fw_base::Params;
+use fw_list::Memory;
 use fw_op::{Op, Words, client_of, number_of};
 use std::alloc::Global;
 
@@ -40,7 +43,7 @@ fn flush_of(params: Params, words: &mut Words<'_>) -> Option<Step>
     ensures none { IfNone result ((s : Step) → IsTrue (step_fits params s) → codes "flush" ∷ words.old ≢ step_words s) }
 {
     let word = words.only_word()?;
-    let most = number_of(word, 1, 1_000_000)?;
+    let most = number_of(word, 1, MOST_FLUSHED)?;
     Some(Step::Flush { most })
 }
 

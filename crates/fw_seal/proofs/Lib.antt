@@ -1,3 +1,4 @@
+-- The files of lemmas.
 pub mod Bytes
 pub mod Words
 pub mod Blocks

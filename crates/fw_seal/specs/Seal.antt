@@ -3,6 +3,7 @@ use Rattle.std.specs.Prelude.{ℕ, zero, suc, ◌+◌, ◌-◌, ◌*◌, ◌≡�
 use Rattle.std.specs.List.{zip}
 use Rattle.std.specs.Int.{w16, w32, to_be_bytes, from_be_bytes, to_le_bytes}
 use Rattle.rand_chacha.specs.ChaCha.{word_at, key_of}
+use Rattle.fw_list.specs.declared.limits.TheConstants.{LONGEST_TEXT}
 use Rattle.fw_digest.specs.Hmac.{hmac_sha256}
 use Rattle.fw_seal.specs.declared.types.BodyKey.{BodyKey}
 use Rattle.fw_seal.specs.declared.types.Direction.{Direction}
@@ -28,7 +29,7 @@ masked key way number block = xor_bytes block (stream_bytes key.stream_key (stre
 
 -- the block of a text: the text's length, high byte first, the text, and zeros up to 512 bytes
 unfoldable pub block_of : List ℕ → List ℕ
-block_of text = to_be_bytes w16 (length text) ++ text ++ replicate (510 - length text) 0
+block_of text = to_be_bytes w16 (length text) ++ text ++ replicate (LONGEST_TEXT - length text) 0
 
 -- the byte of a direction
 abbrev pub way_byte : Direction → ℕ
@@ -48,7 +49,7 @@ sealed key way client number text =
 
 -- the body opens to this text: it is the text's
 pub record Opens (key : BodyKey) (way : Direction) (client number : ℕ) (body text : List ℕ) : Type 0 where
-  pub short : length text ≤ 510
+  pub short : length text ≤ LONGEST_TEXT
   pub same : body ≡ sealed key way client number text
 
 -- the length of the text that a block names
@@ -57,7 +58,7 @@ length_in block = from_be_bytes w16 (take 2 block)
 
 -- the block is of no text: its length is too great, or some byte after the text isn't zero
 abbrev pub IsSpoiled : List ℕ → Type 0
-IsSpoiled block = (510 < length_in block) ⊎ Any (λ b. b ≢ 0) (drop (2 + length_in block) block)
+IsSpoiled block = (LONGEST_TEXT < length_in block) ⊎ Any (λ b. b ≢ 0) (drop (2 + length_in block) block)
 
 -- the body is refused: its tag is another, or its block is of no text
 abbrev pub IsRefused : BodyKey → Direction → ℕ → ℕ → List ℕ → Type 0

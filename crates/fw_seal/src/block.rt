@@ -1,12 +1,14 @@
+//! The block of a text: its length in two bytes, the text, and zeros.
+
 ghost use Rattle.std.specs.Prelude.{◌≡◌, ◌≤◌, ◌↔◌, length, take, drop, IfSome, IsNone, IsTrue, Any, ◌≢◌};
+ghost use Rattle.fw_list.specs.declared.limits.TheConstants.{LONGEST_TEXT};
 ghost use Rattle.fw_seal.specs.Seal.{block_of, length_in, IsSpoiled};
 
-/// The length of the longest text.
-const LONGEST: u16 = 510;
+use fw_list::LONGEST_TEXT;
 
 /// The block of a text.
 pub(crate) fn block_of(text: &[u8]) -> [u8; 512]
-    requires { length text.now ≤ 510 }
+    requires { length text.now ≤ LONGEST_TEXT }
     ensures { result ≡ block_of text.now }
 {
     let len = text.len();
@@ -19,11 +21,11 @@ pub(crate) fn block_of(text: &[u8]) -> [u8; 512]
 /// The length of the text whose block this is.
 pub(crate) fn text_len(block: &[u8]) -> Option<u16>
     requires { length block.now ≡ 512 }
-    ensures found { IfSome result (λ len. (len ≤ 510) × (block.now ≡ block_of (take len (drop 2 block.now)))) }
+    ensures found { IfSome result (λ len. (len ≤ LONGEST_TEXT) × (block.now ≡ block_of (take len (drop 2 block.now)))) }
     ensures spoiled { IsNone result ↔ IsSpoiled block.now }
 {
     let len = u16::from_be_bytes([block[0], block[1]]);
-    if len > LONGEST {
+    if len as usize > LONGEST_TEXT {
         return None;
     }
     if has_other_than_zero(&block[2 + len as usize..]) {

@@ -1,3 +1,5 @@
+//! The stream that masks a block.
+
 ghost use Rattle.std.specs.Prelude.{◌≡◌, length};
 ghost use Rattle.fw_seal.specs.Seal.{masked, stream_of, stream_bytes, xor_bytes};
 

@@ -1,3 +1,5 @@
+//! The tag of a masked block.
+
 ghost use Rattle.std.specs.Prelude.{◌≡◌, ◌↔◌, ◌∷◌, ◌++◌, length, IsTrue};
 ghost use Rattle.std.specs.Int.{w32, to_be_bytes};
 ghost use Rattle.fw_seal.specs.Seal.{tag_of, way_byte};
@@ -37,7 +39,7 @@ pub(crate) fn tag_of(
     hmac(&key.mac_key, &head_of(way, client, number), cipher)
 }
 
-/// Whether two tags are the same, in a time that tells nothing of where they differ.
+/// Whether two tags are the same. It looks at all bytes, also where the first ones differ; nothing is claimed of time.
 pub(crate) fn are_same(a: &[u8], b: &[u8; 32]) -> bool
     requires { length a.now ≡ 32 }
     ensures { IsTrue result ↔ (a.now ≡ b.now) }

@@ -1,3 +1,7 @@
+//! The keys of a client, sealed bodies, and which way they go.
+
+use fw_list::BODY_LEN;
+
 /// The keys of one client, for what it sends and what it is answered.
 #[derive(Clone, Copy)]
 pub struct BodyKey {
@@ -8,7 +12,7 @@ pub struct BodyKey {
 /// A sealed body: the block under the stream, and the tag.
 #[derive(Clone, Copy)]
 pub struct Body {
-    pub bytes: [u8; 544],
+    pub bytes: [u8; BODY_LEN],
 }
 
 /// Whether a body goes to the service or comes from it.

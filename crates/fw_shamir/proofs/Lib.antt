@@ -1,3 +1,4 @@
+-- The files of lemmas.
 pub mod Facts
 pub mod Laws
 pub mod Steps

@@ -1,3 +1,4 @@
+-- The files of definitions.
 pub mod Field
 pub mod Polynomial
 pub mod Sharing

@@ -10,6 +10,3 @@ mod weights;
 pub use field::{gf_inv, gf_mul};
 pub use sharing::{Point, combine, eval, split, through};
 pub use weights::Weights;
-
-#[cfg(test)]
-mod tests;

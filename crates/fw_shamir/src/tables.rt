@@ -1,3 +1,5 @@
+//! Tables of powers and logarithms of the field.
+
 /// 3 to the power of each index up to 510, and then zeros.
 pub(crate) static POWERS: [u8; 1023] = [
     1, 3, 5, 15, 17, 51, 85, 255, 26, 46, 114, 150, 161, 248, 19, 53, 95, 225, 56, 72, 216, 115,

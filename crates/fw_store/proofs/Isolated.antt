@@ -1,7 +1,7 @@
 -- The isolation of clients: replies and views follow from views.
 use Rattle.std.proofs.Common.{◌≡◌, ◌≢◌, ◌⊎◌, inl, inr, ℕ, Bool, true, false, List, length, map, take, Some, None, refl, sym, ap, subst, ◌∙◌}
 use Rattle.std.specs.Prelude.{Option, if◌then◌else◌, bytes_eq, Result, Ok, Err, IfOk, OnOk, OnErr}
-use Rattle.fw_base.specs.declared.memory.Memory.{Memory}
+use Rattle.fw_list.specs.declared.memory.Memory.{Memory}
 use Rattle.std.proofs.lemmas.Bool.{cases_eq}
 use Rattle.fw_op.specs.declared.op.Op.{Op}
 use Rattle.fw_op.specs.declared.op.Op.TheVariants.{Put, Get, Del, Cas, Grant, Revoke, Count, Keys}
@@ -10,7 +10,8 @@ use Rattle.fw_op.specs.declared.reply.Reply.{Reply}
 use Rattle.fw_op.specs.declared.reply.Reply.TheVariants as replies
 use Rattle.fw_op.specs.declared.start.Start.{Start}
 use Rattle.fw_store.specs.Store.{name_of, is_named, is_other, are_ordered, added, changed, changed_at, changed_if, without, record_of, shown_to, visible, value_seen, with_value, with_reader, without_reader, unread, own, swapped, applied, most_names}
-use Rattle.fw_store.specs.Laws.{IsIsolated, Isolation, KeepsOrder}
+use Rattle.fw_store.specs.Wants.{wants, may_want}
+use Rattle.fw_store.specs.Laws.{IsIsolated, IsWantedAlike, Isolation, KeepsOrder}
 use Rattle.fw_store.proofs.Order.{ordered-filter, ordered-map, ordered-added}
 use Rattle.fw_store.proofs.Found.{others-none}
 use Rattle.fw_store.proofs.Seen.{told}
@@ -130,7 +131,7 @@ alike x Keys rs others order order' view =
 pub isolation : Isolation
 isolation x op rs order other order' view =
     let same = alike x op rs other order order' view in
-    record { told = same.replied; shown = same.shows }
+    record { told = same.replied; wanted = ap (wants op) same.replied; shown = same.shows }
 
 -- the order is kept
 ordered-own : (o : Option Start) (a d : Reply × List Start) → (o ≡ None → are_ordered a.1 ≡ true) → are_ordered d.1 ≡ true → are_ordered (own o a d).1 ≡ true
@@ -180,3 +181,7 @@ isolated-after (Ok reply) x op rs after order told ok =
     subst (λ (told : Reply). IsIsolated x op rs told after) (sym told)
     (subst (λ (left : List Start). IsIsolated x op rs (applied x op rs).0 left) (sym ok) (isolation x op rs order))
 isolated-after (Err e) x op rs after order told ok = told
+
+pub wanted-alike : (result : Result Reply Memory) (x : ℕ) (op : Op) (rs : List Start) → are_ordered rs ≡ true → OnErr result (may_want x op rs ≡ true) → OnErr result (IsWantedAlike x op rs)
+wanted-alike (Ok reply) x op rs order wanted = wanted
+wanted-alike (Err e) x op rs order wanted = λ other order' view. sym (isolation x op rs order other order' view).wanted ∙ wanted

@@ -1,3 +1,4 @@
+-- The lemmas of this crate.
 pub mod Names
 pub mod Order
 pub mod Found
@@ -6,4 +7,5 @@ pub mod Views
 pub mod Isolated
 pub mod Done
 pub mod Told
+pub mod Wanted
 pub mod Built

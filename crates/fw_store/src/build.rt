@@ -1,10 +1,11 @@
+//! Records that are put in order.
+
 ghost use Rattle.std.specs.Prelude.{◌≡◌, None, IsTrue, IfOk, OnOk};
 ghost use Rattle.std.specs.List.{list_all};
 ghost use Rattle.fw_store.specs.Store.{are_ordered, are_distinct, is_other, name_of, record_of, added, ordered};
 
 use crate::place::{compare, place_of};
-use crate::view::copy_start;
-use fw_base::Memory;
+use fw_list::Memory;
 use fw_op::Start;
 use std::alloc::Global;
 use std::cmp::Ordering;
@@ -46,7 +47,7 @@ pub fn in_order(alloc: Global, starts: &[Start]) -> Result<Vec<Start>, Memory>
 {
     let mut records = Vec::new(alloc);
     for start in starts {
-        add(&mut records, copy_start(alloc, start)?)?;
+        add(&mut records, start.copy(alloc)?)?;
     }
     Ok(records)
 }

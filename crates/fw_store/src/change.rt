@@ -1,10 +1,13 @@
+//! What operations change.
+
 ghost use Rattle.std.specs.Prelude.{◌≡◌, ◌∷◌, ◌++◌, ◌<◌, IfOk, OnOk, OnErr, IsTrue, length, vec_len, filter, not, nat_eq, nat_lt, bytes_eq, slice_set, slice_index_or};
 ghost use Rattle.fw_op.specs.declared.start.Start.{Start};
 ghost use Rattle.fw_op.specs.declared.op.Op.TheVariants as ops;
 ghost use Rattle.fw_store.specs.Store.{are_ordered, applied, with_value, with_reader, without_reader};
+ghost use Rattle.fw_store.specs.Wants.{may_want};
 
 use crate::place::place_of;
-use fw_base::{Bytes, Memory};
+use fw_list::{Bytes, Memory};
 use fw_op::{Clients, Reply, Start};
 use std::alloc::Global;
 
@@ -67,6 +70,7 @@ pub fn cas(
     ensures reply { IfOk result (λ reply. reply ≡ (applied client (ops.Cas key.now old.now new.now) records.old.items).0) }
     ensures after { OnOk result (records.new.items ≡ (applied client (ops.Cas key.now old.now new.now) records.old.items).1) }
     ensures err { OnErr result (records.new.items ≡ records.old.items) }
+    ensures memory { OnErr result (IsTrue (may_want client (ops.Cas key.now old.now new.now) records.old.items)) }
 {
     match place_of(records.as_slice(), client, key.items()) {
         Err(_) => Ok(Reply::Absent),
@@ -92,6 +96,7 @@ pub fn grant(
     ensures reply { IfOk result (λ reply. reply ≡ (applied caller (ops.Grant key.now client) records.old.items).0) }
     ensures after { OnOk result (records.new.items ≡ (applied caller (ops.Grant key.now client) records.old.items).1) }
     ensures err { OnErr result (records.new.items ≡ records.old.items) }
+    ensures memory { OnErr result (IsTrue (may_want caller (ops.Grant key.now client) records.old.items)) }
 {
     match place_of(records.as_slice(), caller, key.items()) {
         Err(_) => Ok(Reply::Absent),
@@ -114,6 +119,7 @@ pub fn revoke(
     ensures reply { IfOk result (λ reply. reply ≡ (applied caller (ops.Revoke key.now client) records.old.items).0) }
     ensures after { OnOk result (records.new.items ≡ (applied caller (ops.Revoke key.now client) records.old.items).1) }
     ensures err { OnErr result (records.new.items ≡ records.old.items) }
+    ensures memory { OnErr result (IsTrue (may_want caller (ops.Revoke key.now client) records.old.items)) }
 {
     match place_of(records.as_slice(), caller, key.items()) {
         Err(_) => Ok(Reply::Absent),

@@ -1,3 +1,5 @@
+//! The laws of the store.
+
 ghost use Rattle.fw_store.specs.Laws.{Isolation, KeepsOrder};
 
 /// One operation gives equal replies in stores that show the caller the same, and every client to whom both showed the

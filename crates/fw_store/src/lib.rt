@@ -6,8 +6,6 @@ mod change;
 mod law;
 mod place;
 mod store;
-#[cfg(test)]
-mod tests;
 mod view;
 
 pub use build::are_distinct;

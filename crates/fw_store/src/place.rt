@@ -1,3 +1,5 @@
+//! Where a record stands.
+
 ghost use Rattle.std.specs.Prelude.{◌≡◌, IsTrue, MatchResult};
 ghost use Rattle.fw_store.specs.Store.{name_cmp, name_of, are_ordered};
 ghost use Rattle.fw_store.specs.Places.{StandsAt, IsMissingAt};

@@ -1,11 +1,14 @@
-ghost use Rattle.std.specs.Prelude.{◌≡◌, length, IsTrue, IfOk, OnOk, OnErr, IsPermutation};
+//! The store.
+
+ghost use Rattle.std.specs.Prelude.{◌≡◌, ◌≢◌, [], length, IsTrue, IfOk, OnOk, OnErr, IsPermutation};
 ghost use Rattle.fw_store.specs.Store.{are_ordered, are_distinct, ordered, visible, applied};
-ghost use Rattle.fw_store.specs.Laws.{IsIsolated};
+ghost use Rattle.fw_store.specs.Wants.{may_want};
+ghost use Rattle.fw_store.specs.Laws.{IsIsolated, IsWantedAlike};
 
 use crate::build::in_order;
 use crate::change::{cas, del, grant, put, revoke};
 use crate::view::{count, names, value, view};
-use fw_base::Memory;
+use fw_list::Memory;
 use fw_op::{Op, Reply, Start, Starts};
 use std::alloc::Global;
 use std::marker::Model;
@@ -53,16 +56,23 @@ impl Store {
         ensures err { OnErr result (self.new ≡ self.old) }
         ensures order { IsTrue (are_ordered self.new) }
 
+        // Memory is wanted only where something is to be copied or stored.
+        ensures memory { OnErr result (IsTrue (may_want client op.now self.old)) }
+
         // In every other store that shows the client the same the reply is the same, and every client to whom both showed
         // the same is shown the same after it.
         ensures isolated { IfOk result (λ reply. IsIsolated client op.now self.old reply self.new) }
+
+        // And where memory was wanted, it may be in each of those stores.
+        ensures alike { OnErr result (IsWantedAlike client op.now self.old) }
     {
         apply_to(self.alloc, &mut self.records, client, op)
     }
 
     /// What a client is shown of the records.
     pub fn visible(&self, client: u32) -> Result<View, Memory>
-        ensures { IfOk result (λ view. view ≡ visible client self.now) }
+        ensures view { IfOk result (λ view. view ≡ visible client self.now) }
+        ensures memory { OnErr result (visible client self.now ≢ []) }
     {
         view(self.alloc, self.records.as_slice(), client)
     }
@@ -89,6 +99,7 @@ fn apply_to(alloc: Global, records: &mut Vec<Start>, client: u32, op: &Op) -> Re
     ensures reply { IfOk result (λ reply. reply ≡ (applied client op.now records.old.items).0) }
     ensures after { OnOk result (records.new.items ≡ (applied client op.now records.old.items).1) }
     ensures err { OnErr result (records.new.items ≡ records.old.items) }
+    ensures memory { OnErr result (IsTrue (may_want client op.now records.old.items)) }
 {
     match op {
         Op::Put { key, value } => put(alloc, records, client, key, value),

@@ -1,10 +1,13 @@
-ghost use Rattle.std.specs.Prelude.{◌≡◌, IfOk, IsTrue, Some, length, filter, map, take, nat_eq};
+//! What a client sees of the records, and what it is told.
+
+ghost use Rattle.std.specs.Prelude.{◌≡◌, ◌≢◌, [], IfOk, OnErr, IsTrue, Some, length, filter, map, take, nat_eq};
 ghost use Rattle.std.specs.List.{list_any};
 ghost use Rattle.fw_op.specs.declared.op.Op.TheVariants as ops;
 ghost use Rattle.fw_store.specs.Store.{are_ordered, may_see, shown_to, visible, value_seen, name_of, most_names, applied};
+ghost use Rattle.fw_store.specs.Wants.{may_want};
 
 use crate::place::place_of;
-use fw_base::{Bytes, Memory};
+use fw_list::{Bytes, Memory};
 use fw_op::{Clients, Name, Names, Reply, Start, Starts};
 use std::alloc::Global;
 
@@ -34,7 +37,8 @@ pub fn value(
     key: &Bytes,
 ) -> Result<Reply, Memory>
     requires { IsTrue (are_ordered records.now) }
-    ensures { IfOk result (λ reply. reply ≡ (applied client (ops.Get owner key.now) records.now).0) }
+    ensures reply { IfOk result (λ reply. reply ≡ (applied client (ops.Get owner key.now) records.now).0) }
+    ensures memory { OnErr result (IsTrue (may_want client (ops.Get owner key.now) records.now)) }
 {
     match place_of(records, owner, key.items()) {
         Ok(place) => told(alloc, client, &records[place]),
@@ -44,7 +48,8 @@ pub fn value(
 
 /// What a client is told of a record.
 fn told(alloc: Global, client: u32, owned: &Start) -> Result<Reply, Memory>
-    ensures { IfOk result (λ reply. reply ≡ value_seen client (Some owned.now)) }
+    ensures reply { IfOk result (λ reply. reply ≡ value_seen client (Some owned.now)) }
+    ensures memory { OnErr result (IsTrue (may_see client owned.now)) }
 {
     if is_seen(client, owned) {
         Ok(Reply::Value {
@@ -67,7 +72,8 @@ fn seen_count(records: &[Start], client: u32) -> usize
 
 /// The reply to a client that asks how many records it sees; more than a reply can count are want of memory.
 pub fn count(records: &[Start], client: u32) -> Result<Reply, Memory>
-    ensures { IfOk result (λ reply. reply ≡ (applied client ops.Count records.now).0) }
+    ensures reply { IfOk result (λ reply. reply ≡ (applied client ops.Count records.now).0) }
+    ensures memory { OnErr result (IsTrue (may_want client ops.Count records.now)) }
 {
     match u32::try_from(seen_count(records, client)) {
         Ok(count) => Ok(Reply::Count { count }),
@@ -77,7 +83,8 @@ pub fn count(records: &[Start], client: u32) -> Result<Reply, Memory>
 
 /// The first names of the records that a client sees.
 pub fn names(alloc: Global, records: &[Start], client: u32) -> Result<Names, Memory>
-    ensures { IfOk result (λ names. names ≡ take most_names (map name_of (visible client records.now))) }
+    ensures names { IfOk result (λ names. names ≡ take most_names (map name_of (visible client records.now))) }
+    ensures memory { OnErr result (IsTrue (may_want client ops.Keys records.now)) }
 {
     let mut names = Names::new(alloc);
     for owned in records {
@@ -96,7 +103,8 @@ pub fn names(alloc: Global, records: &[Start], client: u32) -> Result<Names, Mem
 
 /// The records that a client sees, as they are shown to it.
 pub fn view(alloc: Global, records: &[Start], client: u32) -> Result<Starts, Memory>
-    ensures { IfOk result (λ view. view ≡ visible client records.now) }
+    ensures view { IfOk result (λ view. view ≡ visible client records.now) }
+    ensures memory { OnErr result (visible client records.now ≢ []) }
 {
     let mut view = Starts::new(alloc);
     for owned in records {
@@ -111,32 +119,9 @@ pub fn view(alloc: Global, records: &[Start], client: u32) -> Result<Starts, Mem
 fn shown(alloc: Global, client: u32, owned: &Start) -> Result<Start, Memory>
     ensures { IfOk result (λ shown. shown ≡ shown_to client owned.now) }
 {
-    let mut shown = copy_start(alloc, owned)?;
+    let mut shown = owned.copy(alloc)?;
     if owned.owner != client {
         shown.readers = Clients::new(alloc);
     }
     Ok(shown)
-}
-
-/// The same record.
-pub fn copy_start(alloc: Global, owned: &Start) -> Result<Start, Memory>
-    ensures { IfOk result (λ copy. copy ≡ owned.now) }
-{
-    Ok(Start {
-        owner: owned.owner,
-        key: Bytes::copy_of(alloc, owned.key.items())?,
-        value: Bytes::copy_of(alloc, owned.value.items())?,
-        readers: copy_clients(alloc, owned.readers.items())?,
-    })
-}
-
-/// The same clients.
-fn copy_clients(alloc: Global, clients: &[u32]) -> Result<Clients, Memory>
-    ensures { IfOk result (λ copy. copy ≡ clients.now) }
-{
-    let mut copy = Clients::new(alloc);
-    for client in clients {
-        copy.push(*client)?;
-    }
-    Ok(copy)
 }

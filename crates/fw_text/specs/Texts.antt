@@ -2,7 +2,7 @@
 -- of two kinds never are the same bytes.
 use Rattle.std.specs.Prelude.{ℕ, zero, suc, List, [], ◌∷◌, ◌++◌, length, flat_map}
 use Rattle.sha2.specs.Sha256.{sha256}
-use Rattle.fw_base.specs.Numbers.{u32}
+use Rattle.fw_list.specs.Numbers.{u32}
 use Rattle.fw_base.specs.Places.{slot_name}
 use Rattle.fw_base.specs.declared.slot.Place.{Place}
 

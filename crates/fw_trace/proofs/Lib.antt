@@ -1,3 +1,5 @@
+-- The files of lemmas.
 pub mod Words
 pub mod Reached
 pub mod Source
+pub mod Rest

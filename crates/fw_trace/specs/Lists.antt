@@ -1,10 +1,5 @@
 -- Words on lists that the definitions share.
-use Rattle.std.specs.Prelude.{ℕ, suc, zero, ◌+◌, cond, nat_eq, max, List, [], ◌∷◌, Option, Some, None}
-
--- first, first + 1, .., count of them
-abbrev pub numbers_from : ℕ → ℕ → List ℕ
-numbers_from first zero = []
-numbers_from first (suc count) = first ∷ numbers_from (first + 1) count
+use Rattle.std.specs.Prelude.{ℕ, cond, nat_eq, max, List, [], ◌∷◌, Option, Some, None}
 
 -- the values up to the first place that has none
 abbrev pub front_of : {A : Type 0} → List (Option A) → List A

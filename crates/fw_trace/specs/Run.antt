@@ -3,7 +3,8 @@ use Rattle.std.specs.Prelude.{ℕ, suc, zero, Bool, true, false, List, [], ◌�
 use Rattle.fw_base.specs.declared.seat.Seat.{Seat}
 use Rattle.fw_trace.specs.declared.Sent.{Sent}
 use Rattle.fw_trace.specs.Trace.{Trace, Rules, Event, Submits, Delivers, Ticks, Lies, after, nothing, next_frame, trace_of}
-use Rattle.fw_trace.specs.Lists.{first_at, front_of, greatest_of, numbers_from}
+use Rattle.fw_list.specs.Lists.{numbers_from}
+use Rattle.fw_trace.specs.Lists.{first_at, front_of, greatest_of}
 
 -- a step of a schedule; L says what a lie is
 pub data Step (O L : Type 0) : Type 0 where

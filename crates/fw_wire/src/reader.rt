@@ -1,5 +1,7 @@
+//! Fields read from the front of bytes.
+
 ghost use Rattle.std.specs.Prelude.{◌≡◌, ◌<◌, ◌↔◌, [], ◌∷◌, ◌++◌, length, MatchOption, IsTrue};
-ghost use Rattle.fw_base.specs.Numbers.{u16, u32};
+ghost use Rattle.fw_list.specs.Numbers.{u16, u32};
 
 use std::marker::Model;
 
@@ -23,6 +25,13 @@ impl<'a> Reader<'a> {
         ensures { result ≡ bytes.now }
     {
         Reader { rest: bytes }
+    }
+
+    /// The same bytes once more.
+    pub fn again(&self) -> Reader<'a>
+        ensures { result ≡ self.now }
+    {
+        Reader { rest: self.rest }
     }
 
     /// How many bytes are left.
@@ -60,7 +69,7 @@ impl<'a> Reader<'a> {
     }
 
     /// The next number of two bytes, if two are left.
-    #[tactic(auto, unfolding(fw_base::specs::Numbers::u16))]
+    #[tactic(auto, unfolding(fw_list::specs::Numbers::u16))]
     pub fn u16(&mut self) -> Option<u16>
         ensures { MatchOption result ((length self.old < 2) × (self.new ≡ self.old)) (λ n. self.old ≡ u16 n ++ self.new) }
     {
@@ -69,7 +78,7 @@ impl<'a> Reader<'a> {
     }
 
     /// The next number of four bytes, if four are left.
-    #[tactic(auto, unfolding(fw_base::specs::Numbers::u32))]
+    #[tactic(auto, unfolding(fw_list::specs::Numbers::u32))]
     pub fn u32(&mut self) -> Option<u32>
         ensures { MatchOption result ((length self.old < 4) × (self.new ≡ self.old)) (λ n. self.old ≡ u32 n ++ self.new) }
     {

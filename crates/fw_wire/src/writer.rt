@@ -1,7 +1,9 @@
-ghost use Rattle.std.specs.Prelude.{◌≡◌, [], ◌∷◌, ◌++◌, IfOk, OnOk, OnErr};
-ghost use Rattle.fw_base.specs.Numbers.{u16, u32};
+//! Fields added at the end of bytes.
 
-use fw_base::{Bytes, Memory};
+ghost use Rattle.std.specs.Prelude.{◌≡◌, [], ◌∷◌, ◌++◌, IfOk, OnOk, OnErr};
+ghost use Rattle.fw_list.specs.Numbers.{u16, u32};
+
+use fw_list::{Bytes, Memory};
 use std::alloc::Global;
 use std::marker::Model;
 
@@ -46,7 +48,7 @@ impl Writer {
     }
 
     /// Adds a number of two bytes.
-    #[tactic(auto, unfolding(fw_base::specs::Numbers::u16))]
+    #[tactic(auto, unfolding(fw_list::specs::Numbers::u16))]
     pub fn u16(&mut self, n: u16) -> Result<(), Memory>
         ensures ok { OnOk result (self.new ≡ self.old ++ u16 n) }
         ensures err { OnErr result (self.new ≡ self.old) }
@@ -56,7 +58,7 @@ impl Writer {
     }
 
     /// Adds a number of four bytes.
-    #[tactic(auto, unfolding(fw_base::specs::Numbers::u32))]
+    #[tactic(auto, unfolding(fw_list::specs::Numbers::u32))]
     pub fn u32(&mut self, n: u32) -> Result<(), Memory>
         ensures ok { OnOk result (self.new ≡ self.old ++ u32 n) }
         ensures err { OnErr result (self.new ≡ self.old) }

@@ -16,7 +16,8 @@ use Rattle.fw_world.specs.Numbers.{agreed_of}
 use Rattle.fw_op.specs.declared.op.Op.{Op}
 use Rattle.fw_node.specs.declared.Message.{Message}
 use Rattle.fw_trace.specs.declared.Logged.{Logged}
-use Rattle.fw_trace.specs.Lists.{numbers_from, front_of}
+use Rattle.fw_list.specs.Lists.{numbers_from}
+use Rattle.fw_trace.specs.Lists.{front_of}
 use Rattle.fw_world.specs.Summary.{line_of_copies, cross_lines_at, cross_lines, agreed_lines, accept_lines, accept_line_of, reply_numbers, submissions, is_submission, summary_of}
 use Rattle.fw_world.proofs.Places.{drop_at}
 
@@ -70,4 +71,5 @@ pub summary_is : (p : Params) (t : Trace Message Op) (agreed : List AgreedLine) 
     → agreed ≡ agreed_lines 1 (agreed_of t.pool) → accepted ≡ accept_lines p t (numbers_from 0 p.clients) → cross ≡ cross_lines 0 (reply_numbers (crossing (in_row 0) t.pool))
     → waiting ≡ submissions t.log - length accepted → rest ≡ rests_from (rules p) t.log 0 t.pool → events ≡ length t.log → frames ≡ length t.pool
     → ◌≡◌ {A = Summary} (record { agreed = agreed; accepted = accepted; cross = cross; waiting = waiting; rest = rest; view = 0; events = events; frames = frames }) (summary_of p t)
+unfolding summary_of
 summary_is p t agreed accepted cross waiting rest events frames e1 e2 e3 e4 e5 e6 e7 = rw (e1, e4, e2, e3, e5, e6, e7) refl

@@ -12,6 +12,7 @@ use Rattle.fw_trace.specs.declared.Sent.{Sent}
 use Rattle.fw_trace.specs.declared.Logged.{Logged}
 use Rattle.fw_trace.specs.Trace.{Trace, Rules, Event, Delivers, history, from_seat, takes, after, delivers, next_frame}
 use Rattle.fw_trace.specs.Run as runs
+use Rattle.fw_trace.proofs.Words.{seat_eq-refl}
 use Rattle.fw_node.specs.declared.Message.{Message}
 use Rattle.fw_node.specs.Given.{Taken}
 use Rattle.fw_rules.specs.Agree.{Out}
@@ -25,16 +26,9 @@ use Rattle.fw_world.proofs.Places.{drop_read}
 pub cond_true : {A : Type 0} (b : Bool) (x y : A) → IsTrue b → cond b x y ≡ x
 cond_true b x y h = ap (λ (t : Bool). cond t x y) h
 
--- a seat is itself
-pub seat_same : (s : Seat) → seat_eq s s ≡ true
-seat_same (Agree i) = eq-eqb i i refl
-seat_same (Exec i) = eq-eqb i i refl
-seat_same (Filter r c) = ap₂ (λ (a b : Bool). a && b) (eq-eqb r r refl) (eq-eqb c c refl)
-seat_same (Client i) = eq-eqb i i refl
-
 -- the input that a seat takes is the newest of its history
 pub history_same : (l : Logged Message Op) (log : List (Logged Message Op)) → history l.seat (l ∷ log) ≡ l.input ∷ history l.seat log
-history_same l log = ap (λ (b : Bool). cond b (l.input ∷ history l.seat log) (history l.seat log)) (seat_same l.seat)
+history_same l log = ap (λ (b : Bool). cond b (l.input ∷ history l.seat log) (history l.seat log)) (seat_eq-refl l.seat)
 
 -- equal answers of the nodes are equal rules
 pub nodes_rule_same : {A E F C : Type 0} (a : A → List Taken → Out) (e : E → List Taken → Out) (f : F → List Taken → Out) (c : C → List Taken → Out) (p : Params) (new old : Nodes A E F C)

@@ -1,3 +1,4 @@
+-- The files of lemmas.
 pub mod Places
 pub mod Events
 pub mod Counting

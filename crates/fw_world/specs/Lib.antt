@@ -1,3 +1,4 @@
+-- The files of definitions.
 pub mod Schedule
 pub mod Summary
 pub mod Rows

@@ -1,9 +1,8 @@
 -- The nodes of a world, of any four kinds: their rules by seat, and the histories that they stand for.
-use Rattle.std.specs.Prelude.{◌≡◌, ℕ, cond, List, [], ◌∷◌, Option, None, Some, slice_get, IsTrue}
+use Rattle.std.specs.Prelude.{◌≡◌, ℕ, cond, List, [], ◌∷◌, Option, None, Some, slice_get}
 use Rattle.fw_base.specs.declared.params.Params.{Params}
 use Rattle.fw_base.specs.declared.seat.Seat.{Seat}
 use Rattle.fw_base.specs.declared.seat.Seat.TheVariants.{Agree, Exec, Filter, Client}
-use Rattle.fw_base.specs.Sizes.{accepted}
 use Rattle.fw_base.specs.Seats.{fits, seat_eq}
 use Rattle.fw_node.specs.Given.{Taken}
 use Rattle.fw_rules.specs.Agree.{Out}
@@ -14,13 +13,6 @@ pub record Nodes (A E F C : Type 0) : Type 0 where
   pub exec : E
   pub filter : F
   pub clients : List C
-
--- a deployment with one node of each kind beside the clients
-pub record IsSingle (p : Params) : Type 0 where
-  pub sizes : IsTrue (accepted p)
-  pub one_agreement_node : p.f ≡ 0
-  pub one_executor : p.g ≡ 0
-  pub one_filter : p.h ≡ 0
 
 abbrev pub rule_or_none : {N : Type 0} → (N → List Taken → Out) → Option N → List Taken → Out
 rule_or_none rule None h = []

@@ -9,7 +9,7 @@ use Rattle.fw_trace.specs.declared.Told.{Told}
 use Rattle.fw_trace.specs.declared.Sent.{Sent}
 use Rattle.fw_trace.specs.declared.Logged.{Logged}
 use Rattle.fw_trace.specs.declared.Input.TheVariants.{Submitted}
-use Rattle.fw_trace.specs.Lists.{numbers_from}
+use Rattle.fw_list.specs.Lists.{numbers_from}
 use Rattle.fw_trace.specs.Trace.{Trace, rests_from}
 use Rattle.fw_node.specs.declared.Message.{Message}
 use Rattle.fw_node.specs.declared.Message.TheVariants as message
@@ -74,7 +74,7 @@ submissions [] = 0
 submissions (l ∷ log) = if is_submission l.input then submissions log + 1 else submissions log
 
 -- the summary of a trace, in a deployment of one row
-abbrev pub summary_of : Params → Trace Message Op → Summary
+unfoldable pub summary_of : Params → Trace Message Op → Summary
 summary_of p t =
     let accepted = accept_lines p t (numbers_from 0 p.clients) in
     record {

@@ -1,15 +1,17 @@
+//! What the clients accepted.
+
 ghost use Rattle.std.specs.Prelude.{◌≡◌, ◌++◌, ◌<◌, ◌^◌, ℕ, List, IfOk, OnOk, Some, length, map, slice_get};
 ghost use Rattle.fw_base.specs.declared.params.Params.{Params};
 ghost use Rattle.fw_base.specs.declared.seat.Seat.TheVariants as seats;
 ghost use Rattle.fw_op.specs.declared.op.Op.{Op};
 ghost use Rattle.fw_node.specs.declared.Message.{Message};
-ghost use Rattle.fw_trace.specs.Lists.{numbers_from};
+ghost use Rattle.fw_list.specs.Lists.{numbers_from};
 ghost use Rattle.fw_trace.specs.Trace.{Trace, history};
 ghost use Rattle.fw_world.specs.Summary.{accept_line_of, accept_lines};
 ghost use Rattle.fw_world.specs.Clients.{ClientsStand};
 
-use fw_base::{Items, Memory};
 use fw_client::ClientNode;
+use fw_list::{Items, Memory};
 use fw_node::Node;
 use fw_op::Reply;
 use fw_report::AcceptLine;

@@ -1,13 +1,17 @@
+//! One node of each kind, and the clients.
+
 ghost use Rattle.std.specs.Prelude.{◌≡◌, ◌<◌, ◌+◌, ◌++◌, ◌∷◌, ℕ, List, IsTrue, OnOk, Some, length, slice_get};
 ghost use Rattle.fw_base.specs.declared.params.Params.{Params};
 ghost use Rattle.fw_base.specs.declared.seat.Seat.{Seat};
 ghost use Rattle.fw_base.specs.declared.seat.Seat.TheVariants as seats;
 ghost use Rattle.fw_base.specs.Seats.{fits};
 ghost use Rattle.fw_node.specs.Given.{Taken, taken};
-ghost use Rattle.fw_world.specs.Nodes.{node_rule, rule_or_none, AllStand, IsSingle, with_input};
+ghost use Rattle.fw_sched.specs.Document.{AreAllowed};
+ghost use Rattle.fw_world.specs.Nodes.{node_rule, rule_or_none, AllStand, with_input};
 ghost use Rattle.fw_world.specs.GridNodes.{nodes_of};
 
-use fw_base::{Memory, Params, Seat};
+use fw_base::{Params, Seat};
+use fw_list::Memory;
 use fw_node::{Given, Node, Outbox};
 
 /// One node of each kind, and the clients by number.
@@ -49,7 +53,7 @@ pub fn give<A: Node, E: Node, F: Node, C: Node>(
     input: Given<'_>,
     out: &mut Outbox,
 ) -> Result<(), Memory>
-    requires single { IsSingle params.now }
+    requires single { AreAllowed params.now }
     requires seat { IsTrue (fits params.now seat) }
     requires clients { length grid.old.clients.items ≡ params.now.clients }
     ensures clients { length grid.new.clients.items ≡ length grid.old.clients.items }

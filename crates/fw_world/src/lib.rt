@@ -10,7 +10,7 @@ mod playing;
 mod pool;
 mod world;
 
-pub use grid::{Grid, give};
+pub use grid::Grid;
 pub use nodes::{Cores, cores};
 pub use playing::replay;
 pub use world::World;

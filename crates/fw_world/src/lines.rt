@@ -1,3 +1,5 @@
+//! The lines of the agreed list, and how many submissions were taken.
+
 ghost use Rattle.std.specs.Prelude.{◌≡◌, ◌+◌, ◌<◌, ◌≤◌, ◌∷◌, [], IfOk, length, drop};
 ghost use Rattle.std.specs.Option.{option_copied};
 ghost use Rattle.fw_trace.specs.Lists.{greatest_of};
@@ -6,7 +8,7 @@ ghost use Rattle.fw_rules.specs.Speeches.{agreed_in};
 ghost use Rattle.fw_world.specs.Summary.{agreed_lines, submissions, is_submission};
 ghost use Rattle.fw_world.specs.Numbers.{asked_as, number_of, greatest_agreed, agreed_of};
 
-use fw_base::{Items, Memory, Newest};
+use fw_list::{Items, Memory, Newest};
 use fw_node::Message;
 use fw_op::Op;
 use fw_ref::Asked;

@@ -1,3 +1,5 @@
+//! New nodes.
+
 ghost use Rattle.std.specs.Prelude.{◌≡◌, ℕ, List, [], IfOk, Some, length, slice_get};
 ghost use Rattle.fw_base.specs.declared.params.Params.{Params};
 ghost use Rattle.fw_base.specs.declared.seat.Seat.{Seat};
@@ -6,15 +8,17 @@ ghost use Rattle.fw_client.specs.Standing.{Asker};
 ghost use Rattle.fw_trace.specs.Role.{sends};
 ghost use Rattle.fw_rules.specs.World.{rule_of};
 ghost use Rattle.fw_rules.specs.Speeches.{client_role};
-ghost use Rattle.fw_world.specs.Nodes.{AllStand, IsSingle, nodes_rule};
+ghost use Rattle.fw_sched.specs.Document.{AreAllowed};
+ghost use Rattle.fw_world.specs.Nodes.{AllStand, nodes_rule};
 ghost use Rattle.fw_world.specs.GridNodes.{nodes_of};
 
 use crate::Grid;
 use fw_agree::AgreeNode;
-use fw_base::{Memory, Params};
+use fw_base::Params;
 use fw_client::ClientNode;
 use fw_exec::ExecNode;
 use fw_filter::FilterNode;
+use fw_list::Memory;
 use fw_node::Node;
 use std::alloc::Global;
 
@@ -36,7 +40,7 @@ fn clients(alloc: Global, params: &Params) -> Result<Vec<ClientNode>, Memory>
 
 /// New nodes for a deployment that has one of each kind.
 pub fn cores(alloc: Global, params: &Params) -> Result<Cores, Memory>
-    requires { IsSingle params.now }
+    requires { AreAllowed params.now }
     ensures clients { IfOk result (λ grid. length grid.clients.items ≡ params.now.clients) }
     ensures fresh { IfOk result (λ grid. AllStand ⟦<AgreeNode as Node>⟧.stands_for ⟦<ExecNode as Node>⟧.stands_for ⟦<FilterNode as Node>⟧.stands_for ⟦<ClientNode as Node>⟧.stands_for params.now (nodes_of grid) (λ seat. [])) }
     // The nodes have the rules of the four roles.

@@ -1,10 +1,12 @@
+//! A whole replay.
+
 ghost use Rattle.std.specs.Prelude.{IfOk};
 ghost use Rattle.fw_sched.specs.Document.{IsAllowed};
 ghost use Rattle.fw_world.specs.Replay.{IsReportOf};
 
 use crate::{World, cores};
-use fw_base::{Bytes, Memory};
 use fw_law_reply::{law_accepted, law_certificates};
+use fw_list::{Bytes, Memory};
 use fw_report::report;
 use fw_sched::Plan;
 use std::alloc::Global;

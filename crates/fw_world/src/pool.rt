@@ -1,14 +1,17 @@
-ghost use Rattle.std.specs.Prelude.{◌≡◌, ◌++◌, ◌&&◌, ◌||◌, not, List, IsTrue, OnOk};
+//! What was sent: the pool of messages, what of it was delivered, and what is due.
+
+ghost use Rattle.std.specs.Prelude.{◌≡◌, ◌↔◌, ◌++◌, ◌&&◌, ◌||◌, not, List, IsTrue, OnOk};
 ghost use Rattle.fw_base.specs.Sizes.{accepted};
 ghost use Rattle.fw_base.specs.Seats.{fits};
 ghost use Rattle.fw_node.specs.Given.{taken};
-ghost use Rattle.fw_trace.specs.Trace.{from_seat, is_frame, was_delivered, next_frame, rests_from};
+ghost use Rattle.fw_trace.specs.Trace.{from_seat, is_frame, was_delivered, next_frame, rests_from, IsAtRest};
 ghost use Rattle.fw_rules.specs.World.{rules_by};
 ghost use Rattle.fw_rules.specs.Agree.{Out};
 ghost use Rattle.fw_node.specs.Given.{Taken};
 ghost use Rattle.fw_base.specs.declared.seat.Seat.{Seat};
 
-use fw_base::{Items, Memory, Newest, Params, Seat};
+use fw_base::{Params, Seat};
+use fw_list::{Items, Memory, Newest};
 use fw_node::{Given, Message, Outbox};
 use fw_op::Op;
 use fw_trace::{Input, Logged, Sent};
@@ -119,7 +122,7 @@ fn is_settled(
 }
 
 /// Whether each frame between seats of the deployment was delivered.
-pub fn rests(params: &Params, log: &Newest<Logged<Message, Op>>, pool: &[Sent<Message>]) -> bool
+fn rests(params: &Params, log: &Newest<Logged<Message, Op>>, pool: &[Sent<Message>]) -> bool
     requires { IsTrue (accepted params.now) }
     ensures { (rule : Seat → List Taken → Out) → result ≡ rests_from (rules_by params.now rule) log.now 0 pool.now }
 {
@@ -129,4 +132,17 @@ pub fn rests(params: &Params, log: &Newest<Logged<Message, Op>>, pool: &[Sent<Me
         }
     }
     true
+}
+
+/// The same: whether the trace is at rest.
+pub fn is_at_rest(
+    params: &Params,
+    log: &Newest<Logged<Message, Op>>,
+    pool: &[Sent<Message>],
+) -> bool
+    requires { IsTrue (accepted params.now) }
+    ensures test { (rule : Seat → List Taken → Out) → result ≡ rests_from (rules_by params.now rule) log.now 0 pool.now }
+    ensures rest { (rule : Seat → List Taken → Out) → IsTrue result ↔ IsAtRest (rules_by params.now rule) (record { pool = pool.now; log = log.now }) }
+{
+    rests(params, log, pool)
 }

@@ -1,3 +1,5 @@
+//! A world of nodes, and the run of a schedule in it.
+
 ghost use Rattle.std.specs.Prelude.{◌≡◌, ◌∷◌, ◌++◌, ℕ, List, IsTrue, IfOk, Ok, OnOk, length, false, slice_get};
 ghost use Rattle.fw_base.specs.Sizes.{accepted};
 ghost use Rattle.fw_world.specs.Delivery.{delivery};
@@ -7,7 +9,8 @@ ghost use Rattle.fw_base.specs.declared.seat.Seat.TheVariants as seats;
 ghost use Rattle.fw_base.specs.Seats.{fits};
 ghost use Rattle.fw_node.specs.Given.{Taken};
 ghost use Rattle.fw_trace.specs.Trace.{from_seat};
-ghost use Rattle.fw_world.specs.Nodes.{node_rule, AllStand, IsSingle, with_input};
+ghost use Rattle.fw_sched.specs.Document.{AreAllowed};
+ghost use Rattle.fw_world.specs.Nodes.{node_rule, AllStand, with_input};
 ghost use Rattle.fw_world.specs.GridNodes.{nodes_of};
 
 use crate::Grid;
@@ -15,9 +18,10 @@ use crate::accepted::accept_lines;
 use crate::crossing::{as_u32, cross_lines, let_down};
 use crate::grid::give;
 use crate::lines::{agreed_lines, submissions};
-use crate::pool::{lent, next, rests, send};
-use fw_base::{Items, Memory, Newest, Params, Seat};
+use crate::pool::{is_at_rest, lent, next, send};
+use fw_base::{Params, Seat};
 use fw_client::ClientNode;
+use fw_list::{Items, Memory, Newest};
 use fw_node::{Message, Node, Outbox};
 use fw_op::Op;
 use fw_report::Summary;
@@ -86,7 +90,7 @@ fn take_in<A: Node, E: Node, F: Node, C: Node>(
     log: &mut Newest<Logged<Message, Op>>,
     logged: Logged<Message, Op>,
 ) -> Result<(), Memory>
-    requires single { IsSingle params.now }
+    requires single { AreAllowed params.now }
     requires seat { IsTrue (fits params.now logged.seat) }
     requires clients { length grid.old.clients.items ≡ params.now.clients }
     ensures clients { length grid.new.clients.items ≡ length grid.old.clients.items }
@@ -106,7 +110,7 @@ fn take_in<A: Node, E: Node, F: Node, C: Node>(
 }
 
 impl<A: Node, E: Node, F: Node, C: Node> World<A, E, F, C> {
-    ghost use Rattle.std.specs.Prelude.{◌≡◌, ◌∷◌, ℕ, List, [], IsTrue, Ok, OnOk, length, false};
+    ghost use Rattle.std.specs.Prelude.{◌≡◌, ◌∷◌, ℕ, List, [], IsTrue, Ok, OnOk, OnErr, length, true, false};
     ghost use Rattle.std.specs.List.{list_all};
     ghost use Rattle.fw_base.specs.declared.seat.Seat.{Seat};
     ghost use Rattle.fw_base.specs.declared.seat.Seat.TheVariants as seats;
@@ -116,14 +120,15 @@ impl<A: Node, E: Node, F: Node, C: Node> World<A, E, F, C> {
     ghost use Rattle.fw_trace.specs.Trace.{Submits, Delivers};
     ghost use Rattle.fw_trace.specs.Run as runs;
     ghost use Rattle.fw_sched.specs.Steps.{step_fits};
-    ghost use Rattle.fw_world.specs.Nodes.{AllStand, IsSingle};
+    ghost use Rattle.fw_sched.specs.Document.{AreAllowed};
+    ghost use Rattle.fw_world.specs.Nodes.{AllStand};
     ghost use Rattle.fw_world.specs.GridNodes.{nodes_of};
     ghost use Rattle.fw_world.specs.Schedule.{schedule, step_of_run};
     ghost use Rattle.fw_world.specs.Seen.{rules_of, world_of};
 
     /// A world of new nodes.
     pub fn new(alloc: Global, params: Params, grid: Grid<A, E, F, C>) -> Self
-        requires single { IsSingle params }
+        requires single { AreAllowed params }
         requires clients { length grid.clients.items ≡ params.clients }
         requires fresh { AllStand A.stands_for E.stands_for F.stands_for C.stands_for params (nodes_of grid) (λ seat. []) }
         ensures { result ≡ record { params = params; nodes = nodes_of grid; trace = nothing; failed = false } }
@@ -145,6 +150,7 @@ impl<A: Node, E: Node, F: Node, C: Node> World<A, E, F, C> {
         ensures params { self.new.params ≡ self.old.params }
         ensures rules { rules_of A.rule E.rule F.rule C.rule self.new ≡ rules_of A.rule E.rule F.rule C.rule self.old }
         ensures going { OnOk result (self.new.failed ≡ false) }
+        ensures failed { OnErr result (self.new.failed ≡ true) }
         ensures trace { OnOk result (self.new.trace ≡ takes (rules_of A.rule E.rule F.rule C.rule self.old) self.old.trace logged) }
     {
         self.failed = true;
@@ -167,14 +173,20 @@ impl<A: Node, E: Node, F: Node, C: Node> World<A, E, F, C> {
         ensures params { self.new.params ≡ self.old.params }
         ensures rules { rules_of A.rule E.rule F.rule C.rule self.new ≡ rules_of A.rule E.rule F.rule C.rule self.old }
         ensures going { OnOk result (self.new.failed ≡ false) }
+        ensures failed { OnErr result (self.new.failed ≡ true) }
         ensures trace { OnOk result (self.new.trace ≡ after (rules_of A.rule E.rule F.rule C.rule self.old) self.old.trace (Submits (seats.Client client) op.now)) }
     {
-        let op = op.copy(self.alloc)?;
-        self.take(Logged {
-            seat: Seat::Client(client),
-            input: Input::Submitted { op },
-            frame: None,
-        })
+        match op.copy(self.alloc) {
+            Ok(op) => self.take(Logged {
+                seat: Seat::Client(client),
+                input: Input::Submitted { op },
+                frame: None,
+            }),
+            Err(memory) => {
+                self.failed = true;
+                Err(memory)
+            }
+        }
     }
 
     /// The frame at a place of the pool comes to its addressee.
@@ -183,11 +195,16 @@ impl<A: Node, E: Node, F: Node, C: Node> World<A, E, F, C> {
         ensures params { self.new.params ≡ self.old.params }
         ensures rules { rules_of A.rule E.rule F.rule C.rule self.new ≡ rules_of A.rule E.rule F.rule C.rule self.old }
         ensures going { OnOk result (self.new.failed ≡ false) }
+        ensures failed { OnErr result (self.new.failed ≡ true) }
         ensures trace { OnOk result (self.new.trace ≡ after (rules_of A.rule E.rule F.rule C.rule self.old) self.old.trace (Delivers k)) }
     {
-        match delivery(self.alloc, &self.params, &self.pool, k)? {
-            Some(logged) => self.take(logged),
-            None => Ok(()),
+        match delivery(self.alloc, &self.params, &self.pool, k) {
+            Ok(Some(logged)) => self.take(logged),
+            Ok(None) => Ok(()),
+            Err(memory) => {
+                self.failed = true;
+                Err(memory)
+            }
         }
     }
 
@@ -204,6 +221,7 @@ impl<A: Node, E: Node, F: Node, C: Node> World<A, E, F, C> {
         ensures params { self.new.params ≡ self.old.params }
         ensures rules { rules_of A.rule E.rule F.rule C.rule self.new ≡ rules_of A.rule E.rule F.rule C.rule self.old }
         ensures going { OnOk result (self.new.failed ≡ false) }
+        ensures failed { OnErr result (self.new.failed ≡ true) }
         ensures trace { OnOk result (runs.flushes (world_of A.rule E.rule F.rule C.rule self.old) most self.old.trace ≡ Ok self.new.trace) }
     {
         for _ in 0..most {
@@ -222,6 +240,7 @@ impl<A: Node, E: Node, F: Node, C: Node> World<A, E, F, C> {
         ensures params { self.new.params ≡ self.old.params }
         ensures rules { rules_of A.rule E.rule F.rule C.rule self.new ≡ rules_of A.rule E.rule F.rule C.rule self.old }
         ensures going { OnOk result (self.new.failed ≡ false) }
+        ensures failed { OnErr result (self.new.failed ≡ true) }
         ensures trace { OnOk result (runs.does (world_of A.rule E.rule F.rule C.rule self.old) self.old.trace (step_of_run step.now) ≡ Ok self.new.trace) }
     {
         match step {
@@ -230,13 +249,14 @@ impl<A: Node, E: Node, F: Node, C: Node> World<A, E, F, C> {
         }
     }
 
-    /// Runs the steps of a schedule, in order. After want of memory the world has failed.
+    /// Runs the steps of a schedule, in order. After want of memory the world has failed, and else it hasn't.
     pub fn run(&mut self, steps: &[Step]) -> Result<(), Memory>
         requires going { self.old.failed ≡ false }
         requires fit { IsTrue (list_all (step_fits self.old.params) steps.now) }
         ensures params { self.new.params ≡ self.old.params }
         ensures rules { rules_of A.rule E.rule F.rule C.rule self.new ≡ rules_of A.rule E.rule F.rule C.rule self.old }
         ensures going { OnOk result (self.new.failed ≡ false) }
+        ensures failed { OnErr result (self.new.failed ≡ true) }
         ensures trace { OnOk result ((k : ℕ) → runs.run_from (world_of A.rule E.rule F.rule C.rule self.old) k self.old.trace (schedule steps.now) ≡ Ok self.new.trace) }
     {
         for step in steps {
@@ -247,13 +267,16 @@ impl<A: Node, E: Node, F: Node, C: Node> World<A, E, F, C> {
 }
 
 impl<A: Node, E: Node, F: Node> World<A, E, F, ClientNode> {
-    ghost use Rattle.std.specs.Prelude.{◌≡◌, IfOk, false};
+    ghost use Rattle.std.specs.Prelude.{◌≡◌, ◌↔◌, IfOk, IsTrue, false};
+    ghost use Rattle.fw_trace.specs.Trace.{IsAtRest};
+    ghost use Rattle.fw_rules.specs.World.{rules};
     ghost use Rattle.fw_world.specs.Summary.{summary_of};
 
     /// What the run so far agreed, accepted and let down.
     pub fn summary(&self) -> Result<Summary, Memory>
         requires { self.now.failed ≡ false }
-        ensures { IfOk result (λ summary. summary ≡ summary_of self.now.params self.now.trace) }
+        ensures summary { IfOk result (λ summary. summary ≡ summary_of self.now.params self.now.trace) }
+        ensures rest { IfOk result (λ summary. IsTrue summary.rest ↔ IsAtRest (rules self.now.params) self.now.trace) }
     {
         let pool = self.pool.items();
         let accepted = accept_lines(self.alloc, &self.grid.clients)?;
@@ -264,7 +287,7 @@ impl<A: Node, E: Node, F: Node> World<A, E, F, ClientNode> {
             accepted,
             cross: cross_lines(self.alloc, down.items())?,
             waiting: as_u32(waiting)?,
-            rest: rests(&self.params, &self.log, pool),
+            rest: is_at_rest(&self.params, &self.log, pool),
             view: 0,
             events: as_u32(self.log.len())?,
             frames: as_u32(pool.len())?,

@@ -1,11 +1,13 @@
-use Rattle.std.proofs.Common.{sym, ◌∙◌}
-use Rattle.fw_agree.proofs.Turns.{held-found, held-passed}
+-- A reply of the number is held if one of those in order has it.
+use Rattle.std.proofs.Common.{ap, ◌∙◌, ℕ, reverse, nat_eq}
+use Rattle.std.specs.List.{list_any}
+use Rattle.std.proofs.lemmas.List.{reverse-reverse}
+use Rattle.fw_ref.specs.declared.asked.Answer.{Answer}
+use Rattle.fw_agree.proofs.Turns.{any_held}
 use Rattle.fw_agree.proofs.is_held.Goals as goal
 
-pub returns-then-is_number_at : goal.returns-then-is_number_at
-returns-then-is_number_at c =
-    sym (c.loop-k.invariant ∙ held-found c.args.held.now c.loop-k.k c.args.number (sym c.is_number_at.ensures ∙ c.if-is_number_at.true))
-
-pub loop-k-preserved : goal.loop-k-preserved
-loop-k-preserved c =
-    c.loop-k.invariant ∙ held-passed c.args.held.now c.loop-k.k c.args.number (sym c.is_number_at.ensures ∙ c.if-is_number_at.false)
+pub returns : goal.returns
+returns c =
+    c.is_any_held.ensures
+    ∙ ap (list_any (λ (pair : ℕ × Answer). nat_eq pair.0 c.args.number)) (ap reverse c.oldest_first.ensures ∙ reverse-reverse c.args.held.now)
+    ∙ any_held c.args.held.now c.args.number

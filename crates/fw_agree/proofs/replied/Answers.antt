@@ -1,3 +1,4 @@
+-- One number more is held.
 use Rattle.std.proofs.Common.{◌<◌, length, sym, ◌∙◌, arith}
 use Rattle.fw_agree.proofs.Turns.{replied-turn}
 use Rattle.fw_agree.proofs.replied.Goals as goal

@@ -1,15 +1,20 @@
-ghost use Rattle.std.specs.Prelude.{◌≡◌, ◌<◌, ◌≤◌, ◌&&◌, IsTrue, IfOk, nat_eq, nat_le, option_map, map};
+//! View changes, at the front of bytes.
+
+ghost use Rattle.std.specs.Prelude.{◌≡◌, ◌<◌, ◌≤◌, ◌&&◌, IsTrue, IfOk, OnErr, nat_eq, nat_le, option_map, map};
 ghost use Rattle.std.specs.List.{flat_map};
-ghost use Rattle.fw_base.specs.Sizes.{accepted, within, quorum};
+ghost use Rattle.fw_list.specs.Numbers.{within};
+ghost use Rattle.fw_base.specs.Sizes.{accepted, quorum};
 ghost use Rattle.fw_frame.specs.Plain.{plain_change};
 ghost use Rattle.fw_frame.specs.Ranges.{change_fits, changes_fit};
 ghost use Rattle.fw_frame.specs.Reading.{Finds, list_fits};
 ghost use Rattle.fw_frame.specs.Spelling.{change_bytes, changes_bytes};
+ghost use Rattle.fw_frame.specs.Needing.{StartsItem, StartsChange, StartsChanges};
 
-use super::fields::{VALUES, deciding, node, number, part};
+use super::fields::{node, number, part};
 use super::proofs::proofs;
 use crate::{Change, ChangeList};
-use fw_base::{Memory, Params};
+use fw_base::Params;
+use fw_list::{Memory, SIGNATURE_LEN};
 use fw_wire::Reader;
 use std::alloc::Global;
 
@@ -25,7 +30,8 @@ pub fn change<'a>(
     requires accepted { IsTrue (accepted params.now) }
     requires low { 0 < low }
     requires high { high < params.now.views }
-    ensures { IfOk result (λ found. Finds change_bytes (λ c. nat_le least c.agree && (within low c.view high && change_fits params.now c)) reader.old (option_map plain_change found) reader.new) }
+    ensures found { IfOk result (λ found. Finds change_bytes (λ c. nat_le least c.agree && (within low c.view high && change_fits params.now c)) reader.old (option_map plain_change found) reader.new) }
+    ensures memory { OnErr result (StartsChange params.now low high reader.old) }
 {
     let Some(view) = number(reader, low, high) else {
         return Ok(None);
@@ -36,7 +42,7 @@ pub fn change<'a>(
     let Some(proofs) = proofs(alloc, params, reader, view)? else {
         return Ok(None);
     };
-    let Some(sig) = part(reader, VALUES) else {
+    let Some(sig) = part(reader, SIGNATURE_LEN) else {
         return Ok(None);
     };
     Ok(Some(Change {
@@ -58,7 +64,8 @@ fn change_to<'a>(
     requires accepted { IsTrue (accepted params.now) }
     requires low { 0 < view }
     requires high { view < params.now.views }
-    ensures { IfOk result (λ found. Finds change_bytes (λ c. nat_le least c.agree && (nat_eq c.view view && change_fits params.now c)) reader.old (option_map plain_change found) reader.new) }
+    ensures found { IfOk result (λ found. Finds change_bytes (λ c. nat_le least c.agree && (nat_eq c.view view && change_fits params.now c)) reader.old (option_map plain_change found) reader.new) }
+    ensures memory { OnErr result (StartsChange params.now view view reader.old) }
 {
     change(alloc, params, reader, view, view, least)
 }
@@ -74,7 +81,8 @@ fn change_list<'a>(
     requires accepted { IsTrue (accepted params.now) }
     requires low { 0 < view }
     requires high { view < params.now.views }
-    ensures { IfOk result (λ found. Finds (flat_map change_bytes) (list_fits (λ c. c.agree) (λ c. nat_eq c.view view && change_fits params.now c) count) reader.old (option_map (map plain_change) found) reader.new) }
+    ensures found { IfOk result (λ found. Finds (flat_map change_bytes) (list_fits (λ c. c.agree) (λ c. nat_eq c.view view && change_fits params.now c) count) reader.old (option_map (map plain_change) found) reader.new) }
+    ensures memory { OnErr result (StartsItem change_bytes (λ c. nat_eq c.view view && change_fits params.now c) (StartsChange params.now view view) reader.old) }
 {
     let mut changes = ChangeList::new(alloc);
     let mut least = 0;
@@ -98,9 +106,10 @@ pub fn changes<'a>(
     requires accepted { IsTrue (accepted params.now) }
     requires low { 0 < view }
     requires high { view < params.now.views }
-    ensures { IfOk result (λ found. Finds changes_bytes (changes_fit params.now view) reader.old (option_map (map plain_change) found) reader.new) }
+    ensures found { IfOk result (λ found. Finds changes_bytes (changes_fit params.now view) reader.old (option_map (map plain_change) found) reader.new) }
+    ensures memory { OnErr result (StartsChanges params.now view reader.old) }
 {
-    let quorum = deciding(params);
+    let quorum = params.quorum();
     let Some(count) = number(reader, quorum, quorum) else {
         return Ok(None);
     };

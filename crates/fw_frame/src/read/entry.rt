@@ -1,3 +1,5 @@
+//! Requests and entries, at the front of bytes.
+
 ghost use Rattle.std.specs.Prelude.{IsTrue, option_map};
 ghost use Rattle.fw_base.specs.Sizes.{accepted};
 ghost use Rattle.fw_frame.specs.Plain.{plain_request, plain_entry};
@@ -5,9 +7,10 @@ ghost use Rattle.fw_frame.specs.Ranges.{request_fits, entry_fits};
 ghost use Rattle.fw_frame.specs.Reading.{Finds};
 ghost use Rattle.fw_frame.specs.Spelling.{request_bytes, entry_bytes};
 
-use super::fields::{BODY, VALUES, below, number, part};
+use super::fields::{below, number, part};
 use crate::{Entry, Request};
 use fw_base::Params;
+use fw_list::{BODY_LEN, SIGNATURE_LEN};
 use fw_wire::Reader;
 
 /// A client's request.
@@ -17,8 +20,8 @@ pub fn request<'a>(params: &Params, reader: &mut Reader<'a>) -> Option<Request<'
 {
     let client = below(reader, params.clients)?;
     let stamp = number(reader, 1, params.stamps)?;
-    let body = part(reader, BODY)?;
-    let sig = part(reader, VALUES)?;
+    let body = part(reader, BODY_LEN)?;
+    let sig = part(reader, SIGNATURE_LEN)?;
     Some(Request {
         client,
         stamp,

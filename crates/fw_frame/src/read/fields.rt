@@ -1,33 +1,14 @@
+//! Numbers of a range and parts of a length, at the front of bytes.
+
 ghost use Rattle.std.specs.Prelude.{◌≡◌, ◌<◌, ◌≤◌, ◌&&◌, IsTrue, nat_le, nat_lt, option_map};
-ghost use Rattle.fw_base.specs.Numbers.{u32};
-ghost use Rattle.fw_base.specs.Sizes.{accepted, agreements, executors, quorum, within};
+ghost use Rattle.fw_list.specs.Numbers.{u32};
+ghost use Rattle.fw_list.specs.Numbers.{within};
+ghost use Rattle.fw_base.specs.Sizes.{accepted, agreements, executors};
 ghost use Rattle.fw_frame.specs.Ranges.{has_length, number_fits, view_fits};
 ghost use Rattle.fw_frame.specs.Reading.{Finds};
 
 use fw_base::Params;
 use fw_wire::Reader;
-
-/// How many bytes a request's body has.
-pub const BODY: usize = 544;
-
-/// How many bytes 256 values have.
-pub const VALUES: usize = 8192;
-
-/// How many agreement nodes there are.
-fn agreement_nodes(params: &Params) -> u32
-    requires { IsTrue (accepted params.now) }
-    ensures { result ≡ agreements params.now }
-{
-    3 * params.f + 1
-}
-
-/// How many of them decide.
-pub fn deciding(params: &Params) -> u32
-    requires { IsTrue (accepted params.now) }
-    ensures { result ≡ quorum params.now }
-{
-    2 * params.f + 1
-}
 
 /// A number of a range.
 pub fn number(reader: &mut Reader<'_>, low: u32, high: u32) -> Option<u32>
@@ -71,7 +52,7 @@ pub fn agreement(params: &Params, reader: &mut Reader<'_>) -> Option<u32>
     requires { IsTrue (accepted params.now) }
     ensures { Finds u32 (λ n. nat_lt n (agreements params.now)) reader.old result reader.new }
 {
-    below(reader, agreement_nodes(params))
+    below(reader, params.agreements())
 }
 
 /// An executor.
@@ -79,7 +60,7 @@ pub fn executor(params: &Params, reader: &mut Reader<'_>) -> Option<u32>
     requires { IsTrue (accepted params.now) }
     ensures { Finds u32 (λ n. nat_lt n (executors params.now)) reader.old result reader.new }
 {
-    below(reader, 2 * params.g + 1)
+    below(reader, params.executors())
 }
 
 /// An agreement node, from one on.
@@ -87,7 +68,7 @@ pub fn node(params: &Params, reader: &mut Reader<'_>, least: u32) -> Option<u32>
     requires { IsTrue (accepted params.now) }
     ensures { Finds u32 (λ n. nat_le least n && nat_lt n (agreements params.now)) reader.old result reader.new }
 {
-    number(reader, least, agreement_nodes(params) - 1)
+    number(reader, least, params.agreements() - 1)
 }
 
 /// A number of the list, from one on.

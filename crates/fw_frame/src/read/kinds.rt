@@ -1,16 +1,20 @@
-ghost use Rattle.std.specs.Prelude.{◌≡◌, IsTrue, ◌&&◌, ◌||◌, IfOk, nat_eq, nat_le, option_map};
+//! The fields of a frame of each kind, at the front of bytes.
+
+ghost use Rattle.std.specs.Prelude.{◌≡◌, ◌-◌, IsTrue, ◌&&◌, ◌||◌, IfOk, OnErr, nat_eq, nat_le, option_map};
 ghost use Rattle.std.specs.List.{list_all};
 ghost use Rattle.fw_base.specs.Sizes.{accepted};
 ghost use Rattle.fw_frame.specs.Plain.{plain};
-ghost use Rattle.fw_frame.specs.Reading.{Finds, kind_fits, fields_bytes, answer_bytes, is_answer};
+ghost use Rattle.fw_frame.specs.Reading.{Finds, kind_fits, fields_bytes, answer_bytes, answered_fits};
 ghost use Rattle.fw_frame.specs.declared.read.kinds.Answered.{Answered};
+ghost use Rattle.fw_frame.specs.Needing.{StartsChange, StartsNewView, StartsAgreed};
 
 use super::changes::{change as one_change, changes};
 use super::entry::{entry, request as one_request};
-use super::fields::{BODY, VALUES, agreement, at_most, begun, below, executor, number, part};
+use super::fields::{agreement, at_most, begun, below, executor, number, part};
 use super::signers::signers;
 use crate::Frame;
-use fw_base::{Memory, Params};
+use fw_base::Params;
+use fw_list::{BODY_LEN, Memory, SIGNATURE_LEN};
 use fw_wire::Reader;
 use std::alloc::Global;
 
@@ -34,7 +38,7 @@ pub fn propose<'a>(params: &Params, reader: &mut Reader<'a>) -> Option<Frame<'a>
     let view = below(reader, params.views)?;
     let number = number(reader, 1, params.numbers)?;
     let entry = entry(params, reader)?;
-    let sig = part(reader, VALUES)?;
+    let sig = part(reader, SIGNATURE_LEN)?;
     Some(Frame::Propose {
         view,
         number,
@@ -53,7 +57,7 @@ pub fn vote<'a>(params: &Params, reader: &mut Reader<'a>) -> Option<Frame<'a>>
     let number = number(reader, 1, params.numbers)?;
     let agree = agreement(params, reader)?;
     let digest = part(reader, DIGEST)?;
-    let sig = part(reader, VALUES)?;
+    let sig = part(reader, SIGNATURE_LEN)?;
     Some(Frame::Vote {
         phase,
         view,
@@ -71,7 +75,8 @@ pub fn change<'a>(
     reader: &mut Reader<'a>,
 ) -> Result<Option<Frame<'a>>, Memory>
     requires { IsTrue (accepted params.now) }
-    ensures { IfOk result (λ found. Finds fields_bytes (kind_fits params.now 4) reader.old (option_map plain found) reader.new) }
+    ensures found { IfOk result (λ found. Finds fields_bytes (kind_fits params.now 4) reader.old (option_map plain found) reader.new) }
+    ensures memory { OnErr result (StartsChange params.now 1 (params.now.views - 1) reader.old) }
 {
     let Some(change) = one_change(alloc, params, reader, 1, params.views - 1, 0)? else {
         return Ok(None);
@@ -86,7 +91,8 @@ pub fn new_view<'a>(
     reader: &mut Reader<'a>,
 ) -> Result<Option<Frame<'a>>, Memory>
     requires { IsTrue (accepted params.now) }
-    ensures { IfOk result (λ found. Finds fields_bytes (kind_fits params.now 5) reader.old (option_map plain found) reader.new) }
+    ensures found { IfOk result (λ found. Finds fields_bytes (kind_fits params.now 5) reader.old (option_map plain found) reader.new) }
+    ensures memory { OnErr result (StartsNewView params.now reader.old) }
 {
     let Some(view) = begun(params, reader) else {
         return Ok(None);
@@ -94,7 +100,7 @@ pub fn new_view<'a>(
     let Some(changes) = changes(alloc, params, reader, view)? else {
         return Ok(None);
     };
-    let Some(sig) = part(reader, VALUES) else {
+    let Some(sig) = part(reader, SIGNATURE_LEN) else {
         return Ok(None);
     };
     Ok(Some(Frame::NewView { view, changes, sig }))
@@ -107,7 +113,8 @@ pub fn agreed<'a>(
     reader: &mut Reader<'a>,
 ) -> Result<Option<Frame<'a>>, Memory>
     requires { IsTrue (accepted params.now) }
-    ensures { IfOk result (λ found. Finds fields_bytes (kind_fits params.now 6) reader.old (option_map plain found) reader.new) }
+    ensures found { IfOk result (λ found. Finds fields_bytes (kind_fits params.now 6) reader.old (option_map plain found) reader.new) }
+    ensures memory { OnErr result (StartsAgreed params.now reader.old) }
 {
     let Some(view) = below(reader, params.views) else {
         return Ok(None);
@@ -159,11 +166,11 @@ fn is_whole(client: u32, stamp: u32, body: &[u8]) -> bool
 /// A client, a stamp and a body: those of a request, or all zero.
 fn answer<'a>(params: &Params, reader: &mut Reader<'a>) -> Option<Answered<'a>>
     requires { IsTrue (accepted params.now) }
-    ensures { Finds answer_bytes (is_answer params.now) reader.old (option_map (λ a. (a.client, (a.stamp, a.body.now))) result) reader.new }
+    ensures { Finds answer_bytes (answered_fits params.now) reader.old (option_map (λ a. (a.client, (a.stamp, a.body.now))) result) reader.new }
 {
     let client = below(reader, params.clients)?;
     let stamp = at_most(reader, params.stamps)?;
-    let body = part(reader, BODY)?;
+    let body = part(reader, BODY_LEN)?;
     if !is_whole(client, stamp, body) {
         return None;
     }
@@ -182,7 +189,7 @@ pub fn share<'a>(params: &Params, reader: &mut Reader<'a>) -> Option<Frame<'a>>
     let number = number(reader, 1, params.numbers)?;
     let exec = executor(params, reader)?;
     let to = answer(params, reader)?;
-    let shares = part(reader, VALUES)?;
+    let shares = part(reader, SIGNATURE_LEN)?;
     Some(Frame::Share {
         number,
         exec,
@@ -200,7 +207,7 @@ pub fn reply<'a>(params: &Params, reader: &mut Reader<'a>) -> Option<Frame<'a>>
 {
     let number = number(reader, 1, params.numbers)?;
     let to = answer(params, reader)?;
-    let secrets = part(reader, VALUES)?;
+    let secrets = part(reader, SIGNATURE_LEN)?;
     Some(Frame::Reply {
         number,
         client: to.client,

@@ -1,16 +1,21 @@
-ghost use Rattle.std.specs.Prelude.{◌≡◌, ◌<◌, ◌≤◌, ◌&&◌, IsTrue, IfOk, nat_eq, nat_le, option_map, map};
+//! Proofs of a view change, at the front of bytes.
+
+ghost use Rattle.std.specs.Prelude.{◌≡◌, ◌<◌, ◌≤◌, ◌&&◌, IsTrue, IfOk, OnErr, nat_eq, nat_le, option_map, map};
 ghost use Rattle.std.specs.List.{flat_map};
-ghost use Rattle.fw_base.specs.Sizes.{accepted, within, quorum};
+ghost use Rattle.fw_list.specs.Numbers.{within};
+ghost use Rattle.fw_base.specs.Sizes.{accepted, quorum};
 ghost use Rattle.fw_frame.specs.Plain.{plain_proof};
 ghost use Rattle.fw_frame.specs.Ranges.{proof_fits, proofs_fit};
 ghost use Rattle.fw_frame.specs.Reading.{Finds, list_fits};
 ghost use Rattle.fw_frame.specs.Spelling.{proof_bytes, proofs_bytes};
+ghost use Rattle.fw_frame.specs.Needing.{StartsItem, StartsProof, StartsProofs};
 
 use super::entry::entry;
 use super::fields::{at_most, below, place};
 use super::signers::signers;
 use crate::{Proof, ProofList};
-use fw_base::{Memory, Params};
+use fw_base::Params;
+use fw_list::Memory;
 use fw_wire::Reader;
 use std::alloc::Global;
 
@@ -25,7 +30,8 @@ fn proof<'a>(
     requires accepted { IsTrue (accepted params.now) }
     requires view { 0 < view }
     requires least { 1 ≤ least }
-    ensures { IfOk result (λ found. Finds proof_bytes (λ q. nat_le least q.number && proof_fits params.now view q) reader.old (option_map plain_proof found) reader.new) }
+    ensures found { IfOk result (λ found. Finds proof_bytes (λ q. nat_le least q.number && proof_fits params.now view q) reader.old (option_map plain_proof found) reader.new) }
+    ensures memory { OnErr result (StartsProof params.now view reader.old) }
 {
     let Some(earlier) = below(reader, view) else {
         return Ok(None);
@@ -57,7 +63,8 @@ fn proof_list<'a>(
 ) -> Result<Option<ProofList<'a>>, Memory>
     requires accepted { IsTrue (accepted params.now) }
     requires view { 0 < view }
-    ensures { IfOk result (λ found. Finds (flat_map proof_bytes) (list_fits (λ q. q.number) (proof_fits params.now view) count) reader.old (option_map (map plain_proof) found) reader.new) }
+    ensures found { IfOk result (λ found. Finds (flat_map proof_bytes) (list_fits (λ q. q.number) (proof_fits params.now view) count) reader.old (option_map (map plain_proof) found) reader.new) }
+    ensures memory { OnErr result (StartsItem proof_bytes (proof_fits params.now view) (StartsProof params.now view) reader.old) }
 {
     let mut proofs = ProofList::new(alloc);
     let mut least = 1;
@@ -80,7 +87,8 @@ pub fn proofs<'a>(
 ) -> Result<Option<ProofList<'a>>, Memory>
     requires accepted { IsTrue (accepted params.now) }
     requires view { 0 < view }
-    ensures { IfOk result (λ found. Finds proofs_bytes (proofs_fit params.now view) reader.old (option_map (map plain_proof) found) reader.new) }
+    ensures found { IfOk result (λ found. Finds proofs_bytes (proofs_fit params.now view) reader.old (option_map (map plain_proof) found) reader.new) }
+    ensures memory { OnErr result (StartsProofs params.now view reader.old) }
 {
     let Some(count) = at_most(reader, params.numbers) else {
         return Ok(None);

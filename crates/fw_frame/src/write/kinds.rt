@@ -1,3 +1,5 @@
+//! Writing a frame of each kind.
+
 ghost use Rattle.std.specs.Prelude.{◌≡◌, ◌++◌, OnOk, map, All};
 ghost use Rattle.fw_frame.specs.Frames as plain_frame;
 ghost use Rattle.fw_frame.specs.Plain.{plain_request, plain_entry, plain_signer, plain_change};
@@ -6,7 +8,7 @@ ghost use Rattle.fw_frame.specs.Writing.{IsCountable, IsWritableChange};
 
 use super::parts;
 use crate::{Change, ChangeList, Entry, Request, Signers};
-use fw_base::Memory;
+use fw_list::Memory;
 use fw_wire::Writer;
 
 /// Adds a request.

@@ -1,3 +1,5 @@
+//! Writing what frames are made of.
+
 ghost use Rattle.std.specs.Prelude.{◌≡◌, ◌++◌, OnOk, map};
 ghost use Rattle.fw_frame.specs.Plain.{plain_request, plain_entry, plain_signer, plain_proof, plain_change};
 ghost use Rattle.fw_frame.specs.Spelling.{request_bytes, entry_bytes, signer_bytes, signers_bytes, proof_bytes, proofs_bytes, change_bytes, changes_bytes};
@@ -5,7 +7,7 @@ ghost use Rattle.fw_frame.specs.Writing.{IsCountable, IsWritableProof, IsWritabl
 ghost use Rattle.std.specs.Prelude.{All};
 
 use crate::{Change, ChangeList, Entry, Proof, ProofList, Request, Signer, Signers};
-use fw_base::Memory;
+use fw_list::Memory;
 use fw_wire::Writer;
 
 /// Adds a request.

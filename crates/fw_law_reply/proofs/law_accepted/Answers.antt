@@ -1,3 +1,4 @@
+-- Each accepted reply is the reference's answer.
 use Rattle.fw_law_reply.proofs.Laws.{accepts, run_accepts}
 use Rattle.fw_law_reply.proofs.law_accepted.Goals as goal
 

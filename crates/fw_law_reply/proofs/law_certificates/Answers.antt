@@ -1,3 +1,4 @@
+-- What goes down is a certificate.
 use Rattle.fw_law_reply.proofs.Laws.{lets_down, sends_down, run_lets_down, run_sends_down}
 use Rattle.fw_law_reply.proofs.law_certificates.Goals as goal
 

@@ -1,3 +1,4 @@
+-- A run is the trace of its events.
 use Rattle.fw_trace.proofs.Reached.{run_reached, run_without_lies}
 use Rattle.fw_trace.proofs.law_run.Goals as goal
 

@@ -1,3 +1,4 @@
+-- One number more goes up.
 use Rattle.std.proofs.Common.{◌≡◌, ◌<◌, true, length, sym, ◌∙◌, ◌++◌, ap, ℕ, arith}
 use Rattle.fw_rules.specs.Agree.{goes_up}
 use Rattle.fw_agree.specs.Standing.{Agreer}

@@ -1,8 +1,8 @@
+-- The turns that are left lead where all lead.
 use Rattle.std.proofs.Common.{◌≡◌, ◌-◌, ◌++◌, length}
 use Rattle.fw_rules.specs.Agree.{goes_up}
 use Rattle.fw_agree.proofs.AgreeNode.goes_up.Given as goal
 
--- the turns that are left lead where all lead
 abbrev pub invariant-loop : goal.invariant-loop
 invariant-loop l =
     let start = l.fn.self in

@@ -1,3 +1,4 @@
+-- The node stands for the history with the input.
 use Rattle.std.proofs.lemmas.Result.{on_ok_weaker}
 use Rattle.fw_node.specs.Given.{taken}
 use Rattle.fw_agree.proofs.After.{stands-after}

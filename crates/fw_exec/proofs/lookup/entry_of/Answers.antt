@@ -1,15 +1,15 @@
-use Rattle.std.proofs.Common.{sym, ◌∙◌, ap}
-use Rattle.fw_trace.specs.Executor as executors
-use Rattle.fw_exec.proofs.Lookups.{entry_found, entry_passed, drop_past}
+-- The newest request of a number is the last of those in order.
+use Rattle.std.proofs.Common.{ap, ◌∙◌, ℕ, List, reverse, nat_eq}
+use Rattle.std.specs.List.{find}
+use Rattle.std.specs.Option.{option_map}
+use Rattle.std.proofs.lemmas.List.{reverse-reverse}
+use Rattle.fw_ref.specs.declared.asked.Asked.{Asked}
+use Rattle.fw_node.specs.declared.Message.{Message}
+use Rattle.fw_node.proofs.Keyed.{find_first}
 use Rattle.fw_exec.proofs.lookup.entry_of.Goals as goal
-use Rattle.fw_exec.proofs.lookup.entry_of.Goals.{in-Some+else-agreed-number, in_default}
 
-pub returns-then-agreed-number : goal.returns-then-agreed-number
-returns-then-agreed-number c = sym (entry_found c.args.kept.now c.loop-k.k c.args.number _ (sym c.in-Some.ensures) c.if-agreed-number.true) ∙ c.loop-k.invariant
-
-pub loop-k-preserved : goal.loop-k-preserved
-loop-k-preserved c =
-    elim c.match-at.branch [
-      | in-Some+else-agreed-number w ↦ entry_passed c.args.kept.now c.loop-k.k c.args.number _ (sym w.in-Some.ensures) w.if-agreed-number.false ∙ c.loop-k.invariant
-      | in_default w ↦ ap (λ left. executors.entry_of left c.args.number) (drop_past c.args.kept.now c.loop-k.k (sym w.in_default.ensures)) ∙ c.loop-k.invariant
-    ]
+pub returns : goal.returns
+returns c =
+    c.last_request.ensures
+    ∙ ap (λ (kept : List (ℕ × Asked × Message)). option_map (λ agreed. agreed.1) (find (λ agreed. nat_eq agreed.0 c.args.number) kept)) (ap reverse c.oldest_first.ensures ∙ reverse-reverse c.args.kept.now)
+    ∙ find_first (λ (agreed : ℕ × Asked × Message). (agreed.0, agreed.1)) c.args.kept.now c.args.number

@@ -1,5 +1,5 @@
 use Rattle.std.proofs.Common.{◌≡◌, ◌++◌, map}
-use Rattle.fw_base.specs.Lists.{numbers_from}
+use Rattle.fw_list.specs.Lists.{numbers_from}
 use Rattle.fw_frame.specs.Parts.{plain_part, shown_at}
 use Rattle.fw_frame.proofs.carried.add_bits.Given as goal
 

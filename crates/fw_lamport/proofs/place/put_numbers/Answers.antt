@@ -1,5 +1,5 @@
 use Rattle.std.proofs.Common.{arith, ap, ◌∙◌, ◌≡◌, ◌+◌, ◌-◌, ◌*◌, ℕ, length, take, get_or}
-use Rattle.fw_base.specs.Numbers.{u32}
+use Rattle.fw_list.specs.Numbers.{u32}
 use Rattle.fw_lamport.proofs.Splicing.{numbers_so_far}
 use Rattle.fw_lamport.proofs.place.put_numbers.Goals as goal
 

@@ -1,3 +1,4 @@
+-- The invariant of the loop of `copy_names`.
 use Rattle.std.proofs.Common.{◌≡◌, take}
 use Rattle.fw_op.proofs.reply.copy_names.Given as goal
 

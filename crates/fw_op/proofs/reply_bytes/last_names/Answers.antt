@@ -1,3 +1,4 @@
+-- What the check leaves to show of `last_names`.
 use Rattle.std.proofs.Common.{nat_le, [], length, sym, ◌∙◌}
 use Rattle.std.proofs.lemmas.Bool.{and_parts, true≢false}
 use Rattle.std.specs.List.{list_all}

@@ -1,3 +1,4 @@
+-- The invariant of the loop of `some_names`.
 use Rattle.std.proofs.Common.{◌≡◌, ◌++◌, true, length}
 use Rattle.std.specs.List.{list_all, flat_map}
 use Rattle.fw_op.specs.Replies.{name_bytes, name_fits}

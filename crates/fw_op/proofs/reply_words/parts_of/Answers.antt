@@ -1,3 +1,4 @@
+-- What the check leaves to show of `parts_of`.
 use Rattle.std.proofs.Common.{arith}
 use Rattle.std.proofs.lemmas.Str.Pattern.{split_after}
 use Rattle.fw_op.specs.Words.{client_word}

@@ -1,3 +1,4 @@
+-- The invariant of the loop of `copy_clients`.
 use Rattle.std.proofs.Common.{◌≡◌, take}
 use Rattle.fw_op.proofs.start.copy_clients.Given as goal
 

@@ -1,3 +1,4 @@
+-- What the check leaves to show of `client_of`.
 use Rattle.std.proofs.Common.{arith, decimal}
 use Rattle.std.proofs.lemmas.Str.Pattern.{strip_prefix_char}
 use Rattle.fw_op.proofs.words.client_of.Goals as goal

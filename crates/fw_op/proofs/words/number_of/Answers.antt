@@ -1,3 +1,4 @@
+-- What the check leaves to show of `number_of`.
 use Rattle.std.proofs.Common.{◌≡◌, arith, decimal, sym, ◌∙◌, ap}
 use Rattle.std.proofs.lemmas.Fmt.{parse-decimal}
 use Rattle.std.proofs.lemmas.Slice.Eq.{bytes_eq-Decides}

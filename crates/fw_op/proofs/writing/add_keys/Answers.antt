@@ -1,3 +1,4 @@
+-- What the check leaves to show of `add_keys`.
 use Rattle.std.proofs.Common.{arith, codes}
 use Rattle.std.proofs.lemmas.Grind.{common_steps}
 use Rattle.fw_op.proofs.ReplySentences.{sentence-names}

@@ -1,3 +1,4 @@
+-- What holds while the loop of `reference` runs.
 use Rattle.std.proofs.Common.{◌≡◌, ◌++◌, map, drop, Some}
 use Rattle.fw_ref.specs.Reference.{opened, at_start, answers}
 use Rattle.fw_ref.proofs.replica.reference.Given as goal

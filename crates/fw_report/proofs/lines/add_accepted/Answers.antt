@@ -1,3 +1,4 @@
+-- What the check leaves to show of `add_accepted`.
 use Rattle.std.proofs.Common.{codes, decimal}
 use Rattle.fw_op.specs.Words.{client_word}
 use Rattle.fw_op.specs.Replies.{reply_words}

@@ -1,3 +1,4 @@
+-- The invariant of the loop of `add_all_agreed`.
 use Rattle.std.proofs.Common.{◌≡◌, ◌++◌, take}
 use Rattle.std.specs.List.{flat_map}
 use Rattle.fw_report.specs.Report.{agreed_line}

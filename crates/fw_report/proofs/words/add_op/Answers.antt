@@ -1,3 +1,4 @@
+-- What the check leaves to show of `add_op`.
 use Rattle.std.proofs.Common.{arith}
 use Rattle.std.proofs.lemmas.Grind.{common_steps}
 use Rattle.fw_report.proofs.Spoken.{following-op_words}

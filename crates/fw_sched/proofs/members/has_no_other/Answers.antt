@@ -1,3 +1,4 @@
+-- What is left to show of `has_no_other`.
 use Rattle.std.proofs.Common.{sym, ◌∙◌}
 use Rattle.fw_sched.specs.Document.{is_known}
 use Rattle.fw_sched.proofs.Tables.{passes_where_found, all_pass_where_found}

@@ -1,3 +1,4 @@
+-- What is left to show of `is_empty_at`.
 use Rattle.std.proofs.Common.{sym}
 use Rattle.toml.specs.Data.{get_member}
 use Rattle.toml.specs.View.{table_view}

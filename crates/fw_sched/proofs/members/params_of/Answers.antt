@@ -1,3 +1,4 @@
+-- What is left to show of `params_of`.
 use Rattle.fw_sched.proofs.Tables.{small_sizes}
 use Rattle.fw_sched.proofs.members.params_of.Goals as goal
 

@@ -1,3 +1,4 @@
+-- What is left to show of `plan_of`.
 use Rattle.std.proofs.Common.{◌≡◌, arith}
 use Rattle.std.proofs.lemmas.Bool.{false≢true}
 use Rattle.toml.specs.View.{table_view}
@@ -14,8 +15,8 @@ returns-in_default-2-clause-none c = λ p allowed says.
     let none = rw c.in_default-2.is at c.in_ok-steps.ensures.none in
     none p.steps (rw sizes at allowed.steps) says.steps
 
-pub returns-then-len-gt100000-clause-none : goal.returns-then-len-gt100000-clause-none
-returns-then-len-gt100000-clause-none c = λ p allowed says.
+pub returns-then-len-gt-MOST_STEPS-clause-none : goal.returns-then-len-gt-MOST_STEPS-clause-none
+returns-then-len-gt-MOST_STEPS-clause-none c = λ p allowed says.
     let found = rw c.in-Some-2.is at c.in_ok-steps.ensures.found in
     let same = same_length (table_view c.args.table.now) p.steps c.in-Some-2.steps says.steps found.0 in
     omega (arith, same, allowed.length, c.len.ensures)

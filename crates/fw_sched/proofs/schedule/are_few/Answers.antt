@@ -1,3 +1,4 @@
+-- What is left to show of `are_few`.
 use Rattle.std.proofs.Common.{refl}
 use Rattle.fw_sched.proofs.Submissions.{few_of_all}
 use Rattle.fw_sched.proofs.schedule.are_few.Goals as goal

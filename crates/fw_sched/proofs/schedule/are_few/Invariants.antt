@@ -1,3 +1,4 @@
+-- What holds while the loop of `are_few` runs.
 use Rattle.std.proofs.Common.{ℕ, ◌<◌, ◌≤◌}
 use Rattle.fw_sched.specs.Steps.{submissions_of}
 use Rattle.fw_sched.proofs.schedule.are_few.Given as goal

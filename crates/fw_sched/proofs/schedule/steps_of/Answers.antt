@@ -1,3 +1,4 @@
+-- What is left to show of `steps_of`.
 use Rattle.std.proofs.Common.{◌+◌, drop, sym, ◌∙◌}
 use Rattle.toml.specs.View.{view, items_view}
 use Rattle.fw_sched.proofs.Submissions.{next_item, read_more, fit_more, left_more, all_read}

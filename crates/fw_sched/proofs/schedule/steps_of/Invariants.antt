@@ -1,3 +1,4 @@
+-- What holds while the loop of `steps_of` runs.
 use Rattle.std.proofs.Common.{◌≡◌, List, ◌++◌, map, drop, IsTrue}
 use Rattle.std.specs.List.{list_all}
 use Rattle.toml.specs.View.{items_view}

@@ -1,3 +1,4 @@
+-- What holds while the loop of `submissions_of` runs.
 use Rattle.std.proofs.Common.{◌≡◌, ◌+◌, ◌≤◌, drop}
 use Rattle.fw_sched.specs.Steps.{submissions_of}
 use Rattle.fw_sched.proofs.schedule.submissions_of.Given as goal

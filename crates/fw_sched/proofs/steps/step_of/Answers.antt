@@ -1,3 +1,4 @@
+-- What is left to show of `step_of`.
 use Rattle.std.proofs.Common.{arith}
 use Rattle.fw_op.proofs.Sentences.{found_by_words, none_by_words}
 use Rattle.fw_sched.specs.Steps.{step_words, step_fits}

@@ -1,3 +1,4 @@
+-- What is left to show of `add`.
 use Rattle.std.proofs.Common.{sym, ◌∙◌}
 use Rattle.fw_op.specs.declared.reply.Name.{Name}
 use Rattle.fw_store.specs.Store.{name_of}

@@ -1,3 +1,4 @@
+-- What holds while the loop of `are_distinct` runs.
 use Rattle.std.proofs.Common.{◌≡◌, drop}
 use Rattle.fw_store.specs.Store.{are_distinct}
 use Rattle.fw_store.proofs.build.are_distinct.Given as goal

@@ -1,3 +1,4 @@
+-- What holds while the loop of `in_order` runs.
 use Rattle.std.proofs.Common.{◌≡◌, [], drop}
 use Rattle.std.specs.Prelude.{fold}
 use Rattle.fw_store.specs.Store.{with_added}

@@ -1,3 +1,4 @@
+-- What holds while the loop of `append_above` runs.
 use Rattle.std.proofs.Common.{◌≡◌, ◌++◌, drop}
 use Rattle.std.specs.Prelude.{filter, nat_lt}
 use Rattle.fw_store.proofs.change.append_above.Given as goal

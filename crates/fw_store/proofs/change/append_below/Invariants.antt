@@ -1,3 +1,4 @@
+-- What holds while the loop of `append_below` runs.
 use Rattle.std.proofs.Common.{◌≡◌, ◌++◌, drop}
 use Rattle.std.specs.Prelude.{filter, nat_lt}
 use Rattle.fw_store.proofs.change.append_below.Given as goal

@@ -1,3 +1,4 @@
+-- What holds while the loop of `parted` runs.
 use Rattle.std.proofs.Common.{◌≡◌, ◌++◌, not, drop}
 use Rattle.std.specs.Prelude.{filter, nat_eq}
 use Rattle.fw_store.proofs.change.parted.Given as goal

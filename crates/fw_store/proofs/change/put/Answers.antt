@@ -1,3 +1,4 @@
+-- What is left to show of `put`.
 use Rattle.std.proofs.Common.{[]}
 use Rattle.fw_op.specs.declared.reply.Name.{Name}
 use Rattle.fw_op.specs.declared.reply.Reply.TheVariants.{Done}

@@ -1,3 +1,4 @@
+-- What holds while the loop of `place_of` runs.
 use Rattle.std.proofs.Common.{◌≡◌, ◌-◌, ◌≤◌, true, length, take, drop}
 use Rattle.std.specs.List.{list_all}
 use Rattle.fw_store.proofs.Found.{is_below, is_above}

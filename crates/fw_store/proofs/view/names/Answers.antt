@@ -1,3 +1,4 @@
+-- What is left to show of `names`.
 use Rattle.std.proofs.Common.{◌≡◌, ◌<◌, ◌++◌, ◌∷◌, [], length, take, sym, ap, ◌∙◌, arith, map}
 use Rattle.fw_op.specs.declared.reply.Name.{Name}
 use Rattle.fw_store.specs.Store.{visible, name_of}

@@ -1,3 +1,4 @@
+-- What holds while the loop of `names` runs.
 use Rattle.std.proofs.Common.{◌≡◌, ◌-◌, ◌≤◌, ◌++◌, length, map, take, drop}
 use Rattle.fw_store.specs.Store.{visible, name_of}
 use Rattle.fw_store.proofs.view.names.Given as goal

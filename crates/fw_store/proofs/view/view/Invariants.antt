@@ -1,3 +1,4 @@
+-- What holds while the loop of `view` runs.
 use Rattle.std.proofs.Common.{◌≡◌, ◌++◌, drop}
 use Rattle.fw_store.specs.Store.{visible}
 use Rattle.fw_store.proofs.view.view.Given as goal

@@ -1,7 +1,8 @@
+-- One client more.
 use Rattle.std.proofs.Common.{◌≡◌, Some, length, slice_get, refl}
 use Rattle.std.proofs.lemmas.Option.{slice_get_read}
 use Rattle.fw_base.specs.declared.seat.Seat.TheVariants.{Client}
-use Rattle.fw_trace.specs.Lists.{numbers_from}
+use Rattle.fw_list.specs.Lists.{numbers_from}
 use Rattle.fw_trace.specs.Trace.{history}
 use Rattle.fw_world.specs.Summary.{accept_lines}
 use Rattle.fw_world.proofs.Counting.{accept_more}

@@ -1,3 +1,4 @@
+-- The lines so far.
 use Rattle.std.proofs.Common.{◌≡◌, ◌++◌, map, take}
 use Rattle.fw_world.specs.Summary.{accept_line_of}
 use Rattle.fw_world.proofs.accepted.push_accepted.Given as goal

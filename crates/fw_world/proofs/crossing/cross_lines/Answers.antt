@@ -1,5 +1,6 @@
+-- One number more.
 use Rattle.fw_world.specs.Summary.{cross_lines_at}
-use Rattle.fw_trace.specs.Lists.{numbers_from}
+use Rattle.fw_list.specs.Lists.{numbers_from}
 use Rattle.fw_world.proofs.Counting.{cross_more}
 use Rattle.fw_world.proofs.crossing.cross_lines.Goals as goal
 

@@ -1,3 +1,4 @@
+-- The greatest so far, and those that are left.
 use Rattle.std.proofs.Common.{◌≡◌, drop, max}
 use Rattle.fw_world.specs.Summary.{greatest}
 use Rattle.fw_world.proofs.crossing.greatest.Given as goal

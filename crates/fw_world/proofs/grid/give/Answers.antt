@@ -1,3 +1,4 @@
+-- The node of a seat sends what its rule says.
 use Rattle.fw_world.proofs.grid.give.Goals as goal
 
 pub returns-in_ok-give_client-in-Client-clause-sent :

@@ -1,3 +1,4 @@
+-- The client of a number sends what its rule says.
 use Rattle.std.proofs.Common.{◌≡◌, Some, slice_get, refl}
 use Rattle.std.proofs.lemmas.Option.{slice_get_read}
 use Rattle.fw_base.specs.declared.seat.Seat.TheVariants as seats

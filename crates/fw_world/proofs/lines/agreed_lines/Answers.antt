@@ -1,3 +1,4 @@
+-- One number more.
 use Rattle.fw_trace.specs.Run as runs
 use Rattle.fw_rules.specs.Speeches.{agreed_in}
 use Rattle.fw_world.specs.Summary.{agreed_lines}

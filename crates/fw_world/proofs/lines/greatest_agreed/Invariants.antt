@@ -1,3 +1,4 @@
+-- The greatest so far, and those that are left.
 use Rattle.std.proofs.Common.{◌≡◌, drop, max}
 use Rattle.fw_world.specs.Numbers.{greatest_agreed}
 use Rattle.fw_world.proofs.lines.greatest_agreed.Given as goal

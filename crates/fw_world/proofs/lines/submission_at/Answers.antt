@@ -1,3 +1,4 @@
+-- One input of the log.
 use Rattle.std.proofs.Common.{◌∙◌, sym, true, false, arith}
 use Rattle.fw_world.proofs.Places.{none_inside}
 use Rattle.fw_world.proofs.Counting.{submissions_more}

@@ -1,3 +1,4 @@
+-- The rule of each client.
 use Rattle.std.proofs.Common.{◌≡◌, ℕ, ap₂}
 use Rattle.fw_rules.specs.Speeches.{client_role}
 use Rattle.fw_trace.specs.Role.{sends}

@@ -1,3 +1,4 @@
+-- New nodes stand for no inputs, and have the rules of the four roles.
 use Rattle.std.proofs.Common.{List}
 use Rattle.fw_agree.specs.declared.AgreeNode.{AgreeNode}
 use Rattle.fw_exec.specs.declared.executor.ExecNode.{ExecNode}

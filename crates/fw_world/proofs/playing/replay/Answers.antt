@@ -1,3 +1,4 @@
+-- The run of new nodes is the run of the plan.
 use Rattle.std.proofs.Common.{◌≡◌, ◌∙◌, ap, List}
 use Rattle.fw_base.specs.declared.params.Params.{Params}
 use Rattle.fw_agree.specs.declared.AgreeNode.{AgreeNode}
@@ -32,7 +33,7 @@ returns c =
     record {
       trace = trace;
       run = run;
-      report = c.in_ok-text.ensures ∙ ap report_text (c.in_ok-summary.ensures ∙ ap (λ (q : Params). summary_of q trace) params);
+      report = c.in_ok-text.ensures ∙ ap report_text (c.in_ok-summary.ensures.summary ∙ ap (λ (q : Params). summary_of q trace) params);
       accepted = c.law_accepted.ensures.runs p (schedule steps) trace run;
       certificates = c.law_certificates.ensures.runs p (schedule steps) trace run;
     }

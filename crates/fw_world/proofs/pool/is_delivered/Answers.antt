@@ -1,3 +1,4 @@
+-- One input more of the log.
 use Rattle.std.proofs.Common.{◌<◌, length, sym, ◌∙◌, true, false, arith}
 use Rattle.fw_world.proofs.Places.{delivered_more, none_inside}
 use Rattle.fw_world.proofs.pool.is_delivered.Goals as goal

@@ -1,3 +1,4 @@
+-- One frame more, and the end.
 use Rattle.std.proofs.Common.{◌≤◌, length, ap, sym, ◌∙◌, arith}
 use Rattle.std.proofs.lemmas.List.{drop_all}
 use Rattle.fw_rules.specs.World.{rules_by}

@@ -1,3 +1,4 @@
+-- The first of all is the first of those that are left.
 use Rattle.std.proofs.Common.{◌≡◌, List, drop}
 use Rattle.fw_base.specs.declared.seat.Seat.{Seat}
 use Rattle.fw_node.specs.Given.{Taken}
@@ -6,6 +7,5 @@ use Rattle.fw_rules.specs.World.{rules_by}
 use Rattle.fw_trace.specs.Trace.{next_frame}
 use Rattle.fw_world.proofs.pool.next.Given as goal
 
--- the first of all is the first of those that are left
 abbrev pub invariant-loop-k : goal.invariant-loop-k
 invariant-loop-k l = (rule : Seat → List Taken → Out) → next_frame (rules_by l.params rule) l.log 0 l.pool ≡ next_frame (rules_by l.params rule) l.log l.k (drop l.k l.pool)

@@ -1,3 +1,4 @@
+-- All rest if those that are left do.
 use Rattle.std.proofs.Common.{◌≡◌, List, drop}
 use Rattle.fw_base.specs.declared.seat.Seat.{Seat}
 use Rattle.fw_node.specs.Given.{Taken}
@@ -6,6 +7,5 @@ use Rattle.fw_rules.specs.World.{rules_by}
 use Rattle.fw_trace.specs.Trace.{rests_from}
 use Rattle.fw_world.proofs.pool.rests.Given as goal
 
--- all rest if those that are left do
 abbrev pub invariant-loop-k : goal.invariant-loop-k
 invariant-loop-k l = (rule : Seat → List Taken → Out) → rests_from (rules_by l.params rule) l.log 0 l.pool ≡ rests_from (rules_by l.params rule) l.log l.k (drop l.k l.pool)

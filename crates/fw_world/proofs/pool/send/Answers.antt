@@ -1,3 +1,4 @@
+-- One message more.
 use Rattle.std.proofs.Common.{List, [], ◌∷◌, ◌++◌, ap, sym, ◌∙◌, append_assoc}
 use Rattle.fw_node.specs.declared.Message.{Message}
 use Rattle.fw_trace.specs.declared.Sent.{Sent}

@@ -1,3 +1,4 @@
+-- What was sent so far.
 use Rattle.std.proofs.Common.{◌≡◌, ◌++◌}
 use Rattle.fw_trace.specs.Trace.{from_seat}
 use Rattle.fw_world.proofs.pool.send.Given as goal

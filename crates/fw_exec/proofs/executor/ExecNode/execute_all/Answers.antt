@@ -1,3 +1,4 @@
+-- Turn by turn: after a turn that was taken, and where none is left.
 use Rattle.std.proofs.Common.{◌≡◌, ◌++◌, ◌<◌, ◌≤◌, length, true, rules, ap, sym, ◌∙◌}
 use Rattle.fw_exec.proofs.Turns.{after, sent, can, taken_after, taken_sent, ended}
 use Rattle.fw_exec.proofs.executor.ExecNode.execute_all.Goals as goal

@@ -1,8 +1,8 @@
+-- From here the turns that are left lead where all lead.
 use Rattle.std.proofs.Common.{◌≡◌, ◌++◌, ◌-◌, suc, length}
 use Rattle.fw_exec.proofs.Turns.{after, sent}
 use Rattle.fw_exec.proofs.executor.ExecNode.execute_all.Given as goal
 
--- from here the turns that are left lead where all lead
 abbrev pub invariant-loop : goal.invariant-loop
 invariant-loop l =
     let all = length l.fn.self.kept in

@@ -8,15 +8,15 @@ use Rattle.fw_frame.proofs.FrameFields.{whole_frame}
 use Rattle.fw_frame.proofs.frame.Frame.read.Goals as goal
 
 pub returns-in_default-clause-each : goal.returns-in_default-clause-each
-returns-in_default-clause-each c = λ f is. (whole_frame c.args.params.now c.args.bytes.now c.new-reader.result c.frame.new.reader None c.new-reader.ensures (rw c.in_default.is at c.in_ok-frame.ensures) f is).0
+returns-in_default-clause-each c = λ f is. (whole_frame c.args.params.now c.args.bytes.now c.new-reader.result c.frame.new.reader None c.new-reader.ensures (rw c.in_default.is at c.in_ok-frame.ensures.found) f is).0
 
 pub returns-then-not-is_empty-clause-each : goal.returns-then-not-is_empty-clause-each
 returns-then-not-is_empty-clause-each c = λ f is.
-    let w = whole_frame c.args.params.now c.args.bytes.now c.new-reader.result c.frame.new.reader (Some (plain c.in-Some.frame)) c.new-reader.ensures (rw c.in-Some.is at c.in_ok-frame.ensures) f is in
+    let w = whole_frame c.args.params.now c.args.bytes.now c.new-reader.result c.frame.new.reader (Some (plain c.in-Some.frame)) c.new-reader.ensures (rw c.in-Some.is at c.in_ok-frame.ensures.found) f is in
     let empty = c.is_empty.ensures.1 w.1 in
     absurd (let no : ⊥ = cc in no)
 
 pub returns-clause-writable : goal.returns-clause-writable
 returns-clause-writable c =
-    let f : Finds frame_bytes (frame_fits c.args.params.now) c.new-reader.result (Some (plain c.in-Some.frame)) c.frame.new.reader = rw c.in-Some.is at c.in_ok-frame.ensures in
+    let f : Finds frame_bytes (frame_fits c.args.params.now) c.new-reader.result (Some (plain c.in-Some.frame)) c.frame.new.reader = rw c.in-Some.is at c.in_ok-frame.ensures.found in
     writable c.args.params.now c.in-Some.frame c.requires f.read.1

@@ -1,6 +1,6 @@
 use Rattle.std.proofs.Common.{◌≡◌, ◌++◌, length, map, take}
 use Rattle.std.specs.List.{flat_map}
-use Rattle.fw_base.specs.Numbers.{u32}
+use Rattle.fw_list.specs.Numbers.{u32}
 use Rattle.fw_frame.specs.Plain.{plain_signer}
 use Rattle.fw_frame.specs.Spelling.{signer_bytes}
 use Rattle.fw_frame.proofs.write.parts.signers.Given as goal

@@ -1,3 +1,4 @@
+-- What the check leaves to show of `last_key`.
 use Rattle.std.proofs.Common.{sym, ◌∙◌, []}
 use Rattle.std.proofs.lemmas.List.{append-nil}
 use Rattle.fw_op.specs.Keys.{key_bytes}

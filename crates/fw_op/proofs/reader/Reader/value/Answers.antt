@@ -1,3 +1,4 @@
+-- What the check leaves to show of `value`.
 use Rattle.std.proofs.Common.{◌≡◌, false, ap, sym, ◌∙◌}
 use Rattle.std.proofs.lemmas.Bool.{true≢false}
 use Rattle.fw_op.specs.Keys.{is_value}

@@ -1,3 +1,4 @@
+-- What the check leaves to show of `bytes`.
 use Rattle.std.proofs.Common.{◌≡◌}
 use Rattle.fw_op.specs.Replies.{reply_bytes}
 use Rattle.fw_op.proofs.Lengths.{short_reply}

@@ -1,3 +1,4 @@
+-- What the check leaves to show of `read_bytes`.
 use Rattle.std.proofs.Common.{sym, ◌∙◌}
 use Rattle.fw_op.specs.Replies.{IsReplyBytes}
 use Rattle.fw_op.proofs.Each.{each_of}

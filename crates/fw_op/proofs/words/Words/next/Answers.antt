@@ -1,3 +1,4 @@
+-- What the check leaves to show of `next`.
 use Rattle.fw_op.proofs.Sentences.{cut}
 use Rattle.fw_op.proofs.words.Words.next.Goals as goal
 

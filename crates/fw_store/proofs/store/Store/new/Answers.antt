@@ -1,3 +1,4 @@
+-- What is left to show of `Store::new`.
 use Rattle.fw_store.proofs.Built.{ordered-same}
 use Rattle.fw_store.proofs.store.Store.new.Goals as goal
 

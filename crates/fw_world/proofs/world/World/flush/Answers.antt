@@ -1,3 +1,4 @@
+-- One turn more, and the end.
 use Rattle.std.proofs.Common.{sym, ◌∙◌}
 use Rattle.fw_world.specs.Nodes.{nodes_rule}
 use Rattle.fw_world.specs.Seen.{rules_of}

@@ -1,3 +1,4 @@
+-- The first frame that is due.
 use Rattle.std.proofs.Common.{ap, ◌∙◌}
 use Rattle.fw_rules.specs.World.{rules_by}
 use Rattle.fw_trace.specs.Trace.{next_frame}

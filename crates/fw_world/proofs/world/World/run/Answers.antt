@@ -1,3 +1,4 @@
+-- One step more, and the end.
 use Rattle.std.proofs.Common.{◌≤◌, length, ap, ◌∙◌, arith}
 use Rattle.fw_world.specs.Seen.{world_of}
 use Rattle.fw_world.proofs.Events.{world_with, schedule_step, schedule_over}

@@ -1,3 +1,4 @@
+-- Where the steps that are left lead, all lead.
 use Rattle.std.proofs.Common.{◌≡◌, ℕ, drop, false, Ok}
 use Rattle.fw_op.specs.declared.op.Op.{Op}
 use Rattle.fw_trace.specs.Trace.{Trace}
@@ -7,7 +8,6 @@ use Rattle.fw_world.specs.Schedule.{schedule}
 use Rattle.fw_world.specs.Seen.{rules_of, world_of}
 use Rattle.fw_world.proofs.world.World.run.Given as goal
 
--- where the steps that are left lead, all lead
 abbrev pub invariant-loop-step : goal.invariant-loop-step
 invariant-loop-step g l =
     let world = world_of g.A.Node.rule g.E.Node.rule g.F.Node.rule g.C.Node.rule l.fn.self in

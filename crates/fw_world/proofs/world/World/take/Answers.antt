@@ -1,3 +1,4 @@
+-- The world after an input.
 use Rattle.std.proofs.Common.{◌≡◌, List, false, ap, ◌∙◌}
 use Rattle.fw_base.specs.declared.seat.Seat.{Seat}
 use Rattle.fw_trace.specs.Trace.{history}

@@ -1,0 +1,47 @@
+//! How a call ends, and the exit status of the process that it makes.
+
+ghost use Rattle.std.specs.Prelude.{◌≡◌};
+ghost use Rattle.std.specs.Process.{exit_status};
+ghost use Rattle.fw_call.specs.Codes.{code_of};
+
+use std::process::ExitCode;
+
+/// How a call of the program ends.
+#[derive(Clone, Copy, Debug, PartialEq, Eq)]
+pub enum Status {
+    /// The whole report was written.
+    Ok,
+    /// The words are no command.
+    Usage,
+    /// The source failed.
+    ReadFault,
+    /// The sink failed.
+    WriteFault,
+    /// The input is nothing that can be replayed so far.
+    Later,
+    /// Memory ran out.
+    Memory,
+}
+
+impl Status {
+    /// The number of the exit status.
+    pub fn code(&self) -> u8
+        ensures { result ≡ code_of self.now }
+    {
+        match self {
+            Status::Ok => 0,
+            Status::Usage => 1,
+            Status::ReadFault => 2,
+            Status::WriteFault => 3,
+            Status::Memory => 10,
+            Status::Later => 11,
+        }
+    }
+
+    /// The exit status of the process.
+    pub fn exit_code(&self) -> ExitCode
+        ensures { exit_status result ≡ code_of self.now }
+    {
+        ExitCode::from(self.code())
+    }
+}

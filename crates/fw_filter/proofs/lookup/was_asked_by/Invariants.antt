@@ -1,6 +1,0 @@
-use Rattle.std.proofs.Common.{◌≡◌, drop}
-use Rattle.fw_trace.specs.Executor as executors
-use Rattle.fw_filter.proofs.lookup.was_asked_by.Given as goal
-
-abbrev pub invariant-loop-k : goal.invariant-loop-k
-invariant-loop-k l = executors.sent_before (drop l.k l.asked) l.seat l.number ≡ executors.sent_before l.asked l.seat l.number

@@ -1,0 +1,8 @@
+//! The outside as bytes: sources and sinks, each with its count of faults, in memory and over the standard library.
+#![tactic(auto)]
+
+mod sink;
+mod source;
+
+pub use sink::{MemorySink, Sink, Took, WriteFault, WriterSink, write_all};
+pub use source::{Calls, Got, MemorySource, ReadAll, ReaderSource, Source, read_all};
