@@ -5,6 +5,7 @@ ghost use Rattle.fw_base.specs.Sizes.{accepted};
 ghost use Rattle.fw_frame.specs.Frames.{PlainFrame};
 ghost use Rattle.fw_frame.specs.Ranges.{IsFrame};
 
+use fw_args::{number_of, params_of};
 use fw_base::Params;
 use fw_frame::{Frame, Text};
 use fw_list::{Bytes, Memory};
@@ -15,34 +16,6 @@ const USAGE: u8 = 1;
 
 /// The status where the input is no frame.
 const NO_FRAME: u8 = 4;
-
-fn number(word: &str) -> Option<u32> {
-    word.parse::<u32>().ok()
-}
-
-/// The sizes that eight words tell, if a deployment may have them.
-fn params(words: &[String]) -> Option<Params>
-    ensures { IfSome result (λ p. IsTrue (accepted p)) }
-{
-    let [f, g, h, numbers, views, clients, stamps, pipe] = words else {
-        return None;
-    };
-    let params = Params {
-        f: number(f.as_str())?,
-        g: number(g.as_str())?,
-        h: number(h.as_str())?,
-        numbers: number(numbers.as_str())?,
-        views: number(views.as_str())?,
-        clients: number(clients.as_str())?,
-        stamps: number(stamps.as_str())?,
-        pipe: number(pipe.as_str())?,
-    };
-    if params.are_accepted() {
-        Some(params)
-    } else {
-        None
-    }
-}
 
 /// The frame that the bytes are, written again: the same bytes.
 fn again(alloc: Global, params: &Params, bytes: &[u8]) -> Result<Option<Bytes>, Memory>
@@ -123,7 +96,7 @@ fn told(alloc: Global, text: &str, status: u8) -> Result<(Bytes, u8), Memory> {
 
 /// What is written of the frame that the bytes are, and the status.
 fn once(alloc: Global, word: &str, sizes: &[String], bytes: &[u8]) -> Result<(Bytes, u8), Memory> {
-    let Some(params) = params(sizes) else {
+    let Some(params) = params_of(sizes) else {
         return told(alloc, "usage\n", USAGE);
     };
     let found = match word {
@@ -145,7 +118,7 @@ fn many(
     sizes: &[String],
     bytes: &[u8],
 ) -> Result<(Bytes, u8), Memory> {
-    let (Some(times), Some(params)) = (number(times), params(sizes)) else {
+    let (Some(times), Some(params)) = (number_of(times), params_of(sizes)) else {
         return told(alloc, "usage\n", USAGE);
     };
     let text = if word == "hash" {

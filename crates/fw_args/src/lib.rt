@@ -1,7 +1,10 @@
 //! The words of the process.
 #![tactic(auto)]
 
+mod sizes;
+
 use fw_list::Memory;
+pub use sizes::{number_of, params_of};
 use std::alloc::Global;
 use std::env;
 use std::io::ErrorKind;

@@ -1,11 +1,5 @@
--- What is known of a list of one item, and of a value that is told.
+-- What is known of a value that is told.
 use Rattle.std.proofs.Common.{◌≡◌, ◌<◌, ◌≤◌, List, [], ◌∷◌, length, get_or, Option, Some, None, IfSome, ap, sym, subst, arith}
-
--- a list of one item
-pub single : {A : Type 0} (xs : List A) (x : A) → 1 ≤ length xs → length xs < 2 → x ≡ get_or xs 0 x → xs ≡ x ∷ []
-single [] x some few read = absurd (omega arith)
-single (y ∷ []) x some few read = ap (λ z. z ∷ []) (sym read)
-single (y ∷ z ∷ ys) x some few read = absurd (omega arith)
 
 -- what holds of a value holds of the one that is told
 pub told : {A : Type 0} (Q : A → Type 0) (o : Option A) (x : A) → IfSome o (λ y. x ≡ y) → Q x → IfSome o Q

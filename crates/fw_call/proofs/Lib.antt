@@ -1,3 +1,5 @@
 -- The files of lemmas.
 pub mod Known
-pub mod OnePlan
+pub mod Plans
+pub mod Answering
+pub mod Written

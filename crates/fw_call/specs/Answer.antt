@@ -1,30 +1,57 @@
 -- What the program answers.
-use Rattle.std.specs.Prelude.{◌≡◌, ℕ, ◌⊎◌, ◌++◌, ◌∷◌, [], List, Option, Some, codes, IfSome}
+use Rattle.std.specs.Prelude.{◌≡◌, ◌≤◌, ◌<◌, ℕ, Bool, true, false, ◌⊎◌, ◌++◌, List, length, Option, Some, None, IfSome, IsTrue}
 use Rattle.fw_base.specs.Faults.{Rose}
+use Rattle.fw_base.specs.declared.params.Params.{Params}
+use Rattle.fw_base.specs.declared.seat.Seat.{Seat}
+use Rattle.fw_base.specs.Seats.{fits}
 use Rattle.fw_io.specs.Sink.{AppendsFront}
+use Rattle.fw_command.specs.declared.command.Command.{Command}
+use Rattle.fw_command.specs.declared.command.Command.TheVariants.{Replay, Deal}
+use Rattle.fw_command.specs.Commands.{IsCommand}
 use Rattle.fw_sched.specs.declared.plan.Plan.{Plan}
+use Rattle.fw_sched.specs.declared.fault.InputFault.{InputFault}
+use Rattle.fw_sched.specs.declared.fault.InputFault.TheVariants as input
 use Rattle.fw_sched.specs.Document.{IsDocument}
+use Rattle.fw_sched.specs.Faults.{IsFault}
+use Rattle.fw_sched.specs.Simple.{is_simple_plan}
+use Rattle.fw_deal.specs.Deals.{PlainDeal, IsDealtFile}
 use Rattle.fw_op.specs.declared.op.Op.{Op}
 use Rattle.fw_node.specs.declared.Message.{Message}
 use Rattle.fw_trace.specs.Trace.{Trace}
 use Rattle.fw_law_reply.specs.Laws.{AcceptsAnswers, LetsDownCertificates}
 use Rattle.fw_world.specs.Schedule.{IsRunOf}
 use Rattle.fw_world.specs.Replay.{IsReportOf}
+use Rattle.fw_call.specs.declared.limits.TheConstants.{LONGEST_INPUT}
+use Rattle.fw_call.specs.declared.status.Status.{Status}
+use Rattle.fw_call.specs.declared.status.Status.TheVariants as status
+use Rattle.fw_call.specs.Lines.{usage_line, read_line, too_long_line, later_line, input_line}
+
+-- ---- what the words ask for
 
 -- the words ask for a replay
 abbrev pub IsReplay : List (List ℕ) → Type 0
-IsReplay words = words ≡ codes "replay" ∷ []
+IsReplay words = IsCommand words Replay
 
--- the bytes are no document
-abbrev pub IsNoDocument : List ℕ → Type 0
-IsNoDocument bytes = (p : Plan) → ¬ IsDocument bytes p
+-- the words ask for the hand file of a seat, or for the public one
+abbrev pub IsDeal : List (List ℕ) → Option Seat → Type 0
+IsDeal words seat = IsCommand words (Deal seat)
 
--- the bytes are the document of one plan, and the text is the report of its run
-pub record IsReplayed (bytes text : List ℕ) : Type 0 where
+-- they are those of some command
+abbrev pub HasCommand : List (List ℕ) → Type 0
+HasCommand words = (command : Command) × IsCommand words command
+
+-- ---- what an input is
+
+-- the bytes are the document of a plan of which this holds
+abbrev pub DocumentWhere : (Plan → Type 0) → List ℕ → Type 0
+DocumentWhere P bytes = (p : Plan) × IsDocument bytes p × P p
+
+-- the bytes are the document of one plan and of no other, and this holds of it
+pub record IsDocumentOf (P : Plan → Type 0) (bytes : List ℕ) : Type 0 where
   pub plan : Plan
   pub document : IsDocument bytes plan
   pub only : (other : Plan) → IsDocument bytes other → other ≡ plan
-  pub report : IsReportOf plan text
+  pub holds : P plan
 
 -- the bytes are the document of a plan, and this holds of the plan and the trace of its run
 abbrev pub HoldsOfRun : (Plan → Trace Message Op → Type 0) → List ℕ → Type 0
@@ -38,6 +65,57 @@ AcceptsOnlyAnswers bytes = HoldsOfRun (λ p t. AcceptsAnswers p.params t) bytes
 abbrev pub LetsDownOnlyCertificates : List ℕ → Type 0
 LetsDownOnlyCertificates bytes = HoldsOfRun (λ p t. LetsDownCertificates t) bytes
 
+-- the deal of a plan's sizes, seed and records
+abbrev pub deal_of : Plan → PlainDeal
+deal_of p = record { origin = record { params = p.params; seed = p.seed }; starts = p.starts }
+
+-- the deployment has the seat; a public file is nobody's
+abbrev pub has_seat : Params → Option Seat → Bool
+has_seat p None = true
+has_seat p (Some seat) = fits p seat
+
+-- ---- what a command does with a plan
+
+-- it can be done: the schedule can be replayed so far, the deployment has the seat
+abbrev pub CanDo : Command → Plan → Type 0
+CanDo Replay p = IsTrue (is_simple_plan p)
+CanDo (Deal seat) p = IsTrue (has_seat p.params seat)
+
+-- the report of the plan's run, or the hand file of its deal
+abbrev pub IsOutputOf : Command → Plan → List ℕ → Type 0
+IsOutputOf Replay p text = IsReportOf p text
+IsOutputOf (Deal seat) p text = IsDealtFile (deal_of p) seat text
+
+-- the schedule can't be replayed so far
+abbrev pub MustWait : Command → Plan → Type 0
+MustWait Replay p = is_simple_plan p ≡ false
+MustWait (Deal seat) p = ⊥
+
+-- the deployment lacks the seat
+abbrev pub LacksSeat : Command → Plan → Type 0
+LacksSeat Replay p = ⊥
+LacksSeat (Deal seat) p = has_seat p.params seat ≡ false
+
+-- what is wrong with an input for a command: the first fault of bytes that are no document, or a seat that the deployment lacks
+abbrev pub IsInputFault : Command → List ℕ → InputFault → Type 0
+IsInputFault command bytes fault = IsFault bytes fault ⊎ ((fault ≡ input.Seat) × DocumentWhere (LacksSeat command) bytes)
+
+-- ---- the right answer
+
+-- of a command at an input of these bytes, where nothing fails and there is memory: this holds of one status
+abbrev pub IsRight : Command → List ℕ → Status → Type 0
+IsRight command bytes status.TooLong = LONGEST_INPUT < length bytes
+IsRight command bytes (status.Input fault) = (length bytes ≤ LONGEST_INPUT) × IsInputFault command bytes fault
+IsRight command bytes status.Later = (length bytes ≤ LONGEST_INPUT) × DocumentWhere (MustWait command) bytes
+IsRight command bytes status.Ok = (length bytes ≤ LONGEST_INPUT) × DocumentWhere (CanDo command) bytes
+IsRight command bytes _ = ⊥
+
+-- the output of a command that was done
+abbrev pub IsOutput : Command → List ℕ → List ℕ → Type 0
+IsOutput command bytes text = IsDocumentOf (λ p. IsOutputOf command p text) bytes
+
+-- ---- what is written
+
 -- the text was appended to what was written, where that is told
 abbrev pub Appends : Option (List ℕ) → List ℕ → Option (List ℕ) → Type 0
 Appends before text after = IfSome before (λ bytes. after ≡ Some (bytes ++ text))
@@ -46,26 +124,29 @@ Appends before text after = IfSome before (λ bytes. after ≡ Some (bytes ++ te
 abbrev pub AppendsPart : Option (List ℕ) → List ℕ → Option (List ℕ) → Type 0
 AppendsPart before text after = IfSome before (λ bytes. AppendsFront bytes text after)
 
--- the lines that name a fault
-abbrev pub usage_line : List ℕ
-usage_line = codes "fault usage\n"
-
-abbrev pub read_line : List ℕ
-read_line = codes "fault read\n"
-
-abbrev pub later_line : List ℕ
-later_line = codes "fault later\n"
+-- some bytes, which are those that the source had left where it tells them, have this text as the output of a command
+abbrev pub Outputs : Command → Option (List ℕ) → List ℕ → Type 0
+Outputs command left text = (bytes : List ℕ) × IsOutput command bytes text × IfSome left (λ all. all ≡ bytes)
 
 -- the bytes were read to their end, and the text is the report of the plan that they are the document of
 abbrev pub Reports : Option (List ℕ) → List ℕ → Type 0
-Reports left text = (bytes : List ℕ) × IsReplayed bytes text × IfSome left (λ all. all ≡ bytes)
+Reports left text = Outputs Replay left text
 
--- the text of the outcome of a call with these words, at a source that had this left and of which the count of faults was
--- and is this: the usage line for other words, and for a replay the line of a failed read, the line of an input that is
--- no document, or the report
+-- the same, and the text is the hand file of a seat, or the public one
+abbrev pub Deals : Option Seat → Option (List ℕ) → List ℕ → Type 0
+Deals seat left text = Outputs (Deal seat) left text
+
+-- the text of the outcome of a command at a source that had this left and of which the count of faults was and is this: the
+-- line of a failed read, of an input that is too long, wrong, or can't be replayed so far, or the output
+abbrev pub IsTextOf : Command → Option (List ℕ) → ℕ → ℕ → List ℕ → Type 0
+IsTextOf command left before after text =
+    (Rose before after × (text ≡ read_line))
+    ⊎ (IfSome left (λ bytes. IsRight command bytes status.TooLong) × (text ≡ too_long_line))
+    ⊎ ((fault : InputFault) × IfSome left (λ bytes. IsRight command bytes (status.Input fault)) × (text ≡ input_line fault))
+    ⊎ (IfSome left (λ bytes. IsRight command bytes status.Later) × (text ≡ later_line))
+    ⊎ Outputs command left text
+
+-- and of words, which may be no command
 abbrev pub IsOutcomeText : List (List ℕ) → Option (List ℕ) → ℕ → ℕ → List ℕ → Type 0
 IsOutcomeText words left before after text =
-    ((¬ IsReplay words) × (text ≡ usage_line))
-    ⊎ (IsReplay words × Rose before after × (text ≡ read_line))
-    ⊎ (IsReplay words × IfSome left IsNoDocument × (text ≡ later_line))
-    ⊎ (IsReplay words × Reports left text)
+    ((¬ HasCommand words) × (text ≡ usage_line)) ⊎ ((command : Command) × IsCommand words command × IsTextOf command left before after text)

@@ -8,5 +8,7 @@ code_of status.Ok = 0
 code_of status.Usage = 1
 code_of status.ReadFault = 2
 code_of status.WriteFault = 3
+code_of (status.Input fault) = 5
+code_of status.TooLong = 6
 code_of status.Memory = 10
 code_of status.Later = 11

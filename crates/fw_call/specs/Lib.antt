@@ -1,3 +1,5 @@
 -- The files of definitions.
+pub mod Lines
 pub mod Answer
+pub mod Reasons
 pub mod Codes

@@ -4,12 +4,13 @@ ghost use Rattle.std.specs.Prelude.{◌≡◌};
 ghost use Rattle.std.specs.Process.{exit_status};
 ghost use Rattle.fw_call.specs.Codes.{code_of};
 
+use fw_sched::InputFault;
 use std::process::ExitCode;
 
 /// How a call of the program ends.
-#[derive(Clone, Copy, Debug, PartialEq, Eq)]
+#[derive(Debug, Drop)]
 pub enum Status {
-    /// The whole report was written.
+    /// The whole output was written.
     Ok,
     /// The words are no command.
     Usage,
@@ -17,7 +18,11 @@ pub enum Status {
     ReadFault,
     /// The sink failed.
     WriteFault,
-    /// The input is nothing that can be replayed so far.
+    /// The input is no document, or the deployment lacks the seat that the words name; this is the first part that is wrong.
+    Input(InputFault),
+    /// The input is longer than a document may be.
+    TooLong,
+    /// The input is a document whose schedule can't be replayed so far.
     Later,
     /// Memory ran out.
     Memory,
@@ -33,6 +38,8 @@ impl Status {
             Status::Usage => 1,
             Status::ReadFault => 2,
             Status::WriteFault => 3,
+            Status::Input(_) => 5,
+            Status::TooLong => 6,
             Status::Memory => 10,
             Status::Later => 11,
         }

@@ -3,6 +3,8 @@
 
 mod sink;
 mod source;
+mod steady;
 
 pub use sink::{MemorySink, Sink, Took, WriteFault, WriterSink, write_all};
 pub use source::{Calls, Got, MemorySource, ReadAll, ReaderSource, Source, read_all};
+pub use steady::{SteadySink, SteadySource};

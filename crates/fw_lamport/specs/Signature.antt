@@ -1,8 +1,13 @@
 -- Which 256 values of 32 bytes are a signature.
-use Rattle.std.specs.Prelude.{◌≡◌, ℕ, ◌+◌, ◌*◌, ◌<◌, List}
+use Rattle.std.specs.Prelude.{◌≡◌, ℕ, ◌+◌, ◌*◌, ◌/◌, ◌%◌, ◌<◌, List}
 use Rattle.fw_base.specs.declared.slot.Slot.{Slot}
+use Rattle.fw_base.specs.declared.slot.Place.{Place}
 use Rattle.fw_text.specs.Bits.{bit_of, place_on, value_at}
 use Rattle.fw_text.specs.Texts.{hash, Value}
+
+-- the place of value k among the 512 of a slot at a point: they stand by bit, side 0 first
+abbrev pub place_at : Slot → ℕ → ℕ → Place
+place_at slot point k = record { slot = slot; bit = k / 2; side = k % 2; point = point }
 
 -- where a bit's side stands among the 512 values of a slot: by bit, side 0 first
 abbrev pub side_of : List ℕ → ℕ → ℕ

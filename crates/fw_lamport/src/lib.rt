@@ -7,4 +7,4 @@ mod signing;
 mod verifying;
 
 pub use signing::sign;
-pub use verifying::verify;
+pub use verifying::{value_digest, verify};

@@ -8,7 +8,7 @@ ghost use Rattle.fw_list.specs.declared.limits.TheConstants.{ROW_LEN, SIGNATURE_
 
 use crate::place::place_bytes;
 use fw_base::{Place, Slot};
-use fw_digest::{Steps, counted_digest};
+use fw_digest::{Steps, counted_digest, digest};
 use fw_text::bit_of;
 use std::sync::ledger::Ledger;
 
@@ -27,6 +27,7 @@ pub fn verify<L: Ledger>(
     requires sig { length sig.now ≡ SIGNATURE_LEN }
     ensures valid { IsTrue result ↔ IsValid rows.now slot point digest.now sig.now }
     ensures all { result ≡ true → steps.new ≡ steps.old + 256 }
+    ensures most { steps.new ≤ steps.old + 256 }
     ensures first { (b : ℕ) → IsFirstWrong rows.now slot point digest.now sig.now b → steps.new ≡ steps.old + b + 1 }
 {
     for b in 0..256 {
@@ -61,7 +62,7 @@ fn is_shown<L: Ledger>(
         point,
     };
     let row = 2 * b + usize::from(side);
-    let found = value_digest(&place, value_at(sig, b), steps);
+    let found = counted_value_digest(&place, value_at(sig, b), steps);
     are_same(&found, value_at(rows, row))
 }
 
@@ -83,9 +84,17 @@ fn are_same(one: &[u8], other: &[u8]) -> bool
 
 /// The digest of a value with its place. It is one step.
 #[tactic(auto, unfolding(fw_text::specs::Texts::hash, fw_text::specs::Texts::text_bytes))]
-fn value_digest<L: Ledger>(place: &Place, value: &[u8], steps: &mut Steps<L>) -> [u8; 32]
+fn counted_value_digest<L: Ledger>(place: &Place, value: &[u8], steps: &mut Steps<L>) -> [u8; 32]
     ensures digest { result ≡ hash (Value place.now value.now) }
     ensures step { steps.new ≡ steps.old + 1 }
 {
     counted_digest(1, &place_bytes(place), value, steps)
+}
+
+/// The digest of a value with its place, as a directory lists it. It is no step of a caller's.
+#[tactic(auto, unfolding(fw_text::specs::Texts::hash, fw_text::specs::Texts::text_bytes))]
+pub fn value_digest(place: &Place, value: &[u8]) -> [u8; 32]
+    ensures { result ≡ hash (Value place.now value.now) }
+{
+    digest(1, &place_bytes(place), value)
 }

@@ -19,7 +19,7 @@ fn has_key_bytes(word: &[u8]) -> bool
 }
 
 /// Whether the bytes are a key.
-pub(crate) fn is_key(word: &[u8]) -> bool
+pub fn is_key(word: &[u8]) -> bool
     ensures { result ≡ is_key word.now }
 {
     let len = word.len();
@@ -33,7 +33,7 @@ fn has_value_bytes(word: &[u8]) -> bool
 }
 
 /// Whether the bytes are a value.
-pub(crate) fn is_value(word: &[u8]) -> bool
+pub fn is_value(word: &[u8]) -> bool
     ensures { result ≡ is_value word.now }
 {
     let len = word.len();

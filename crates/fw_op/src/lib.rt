@@ -19,6 +19,7 @@ mod start;
 mod words;
 mod writing;
 
+pub use keys::{is_key, is_value};
 pub use limits::{LONGEST_KEY, LONGEST_VALUE, MOST_NAMES};
 pub use op::Op;
 pub use reply::{Name, Names, Reply};

@@ -76,7 +76,7 @@ impl<'a> Words<'a> {
     }
 
     /// Whether no word is left. A word that is left is taken.
-    pub(crate) fn has_ended(&mut self) -> bool
+    pub fn has_ended(&mut self) -> bool
         ensures ended { IsTrue result ↔ (self.old ≡ []) }
         ensures left { self.new ≡ drop 1 self.old }
     {
@@ -87,7 +87,7 @@ impl<'a> Words<'a> {
     }
 
     /// The item, if no word is left.
-    pub(crate) fn end_with<T: Drop>(&mut self, item: T) -> Option<T>
+    pub fn end_with<T: Drop>(&mut self, item: T) -> Option<T>
         ensures found { IfSome result (λ found. (self.old ≡ []) × (found ≡ item)) }
         ensures none { IfNone result (self.old ≢ []) }
     {
@@ -107,7 +107,7 @@ impl<'a> Words<'a> {
     }
 
     /// The two words that are left. Where there are more, three are taken.
-    pub(crate) fn two_words(&mut self) -> Option<(&'a str, &'a str)>
+    pub fn two_words(&mut self) -> Option<(&'a str, &'a str)>
         ensures left { self.new ≡ drop 3 self.old }
         ensures words { MatchOption result ((a b : List ℕ) → self.old ≢ a ∷ b ∷ []) (λ pair. self.old ≡ pair.0.now ∷ pair.1.now ∷ []) }
     {

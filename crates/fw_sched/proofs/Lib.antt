@@ -1,5 +1,7 @@
 -- The lemmas of this crate.
-pub mod Sentences
-pub mod Tables
-pub mod Submissions
-pub mod Blank
+pub mod Itemwise
+pub mod Heads
+pub mod Verdicts
+pub mod Counted
+pub mod Texts
+pub mod Names

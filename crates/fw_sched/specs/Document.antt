@@ -1,98 +1,122 @@
 -- Which bytes are the document of a plan.
-use Rattle.std.specs.Prelude.{◌≡◌, ◌≤◌, ℕ, pos, Bool, List, [], ◌∷◌, length, map, Some, Ok, codes, IsSome, IsTrue}
-use Rattle.std.specs.List.{list_all, list_any}
-use Rattle.std.specs.Str.{IsUtf8, bytes_eq}
-use Rattle.toml.specs.Data.{Data, string, integer, array, Items, no_items, item, Members, get_member}
+use Rattle.std.specs.Prelude.{◌≡◌, ℕ, ◌+◌, Bool, true, false, nat_eq, nat_lt, List, [], ◌∷◌, None, Some, codes, IsTrue, if◌then◌else◌}
+use Rattle.std.specs.List.{list_all}
+use Rattle.std.specs.Str.{IsUtf8}
+use Rattle.toml.specs.Data.{Members}
 use Rattle.toml.specs.Parse.{parse_document}
-use Rattle.toml.specs.Errors.{IsBlank}
-use Rattle.hex.specs.Hex.{decode_sized}
 use Rattle.fw_base.specs.declared.params.Params.{Params}
 use Rattle.fw_base.specs.Sizes.{accepted}
-use Rattle.fw_sched.specs.declared.limits.TheConstants.{LONGEST_DOCUMENT, MOST_STEPS}
+use Rattle.fw_base.specs.declared.seat.Seat.{Seat}
+use Rattle.fw_base.specs.declared.seat.Seat.TheVariants.{Agree, Exec, Filter}
+use Rattle.fw_base.specs.Seats.{fits, seat_index}
+use Rattle.fw_base.specs.Names.{seat_name}
+use Rattle.fw_op.specs.declared.start.Start.{Start}
+use Rattle.fw_record.specs.Records.{start_text, start_fits, is_new}
+use Rattle.fw_step.specs.declared.step.Step.{Step}
+use Rattle.fw_step.specs.declared.step.Step.TheVariants.{Submit}
+use Rattle.fw_step.specs.Spelling.{IsStepText}
+use Rattle.fw_step.specs.Fitting.{step_fits}
 use Rattle.fw_sched.specs.declared.plan.Plan.{Plan}
-use Rattle.fw_sched.specs.declared.plan.Step.{Step}
-use Rattle.fw_sched.specs.Steps.{step_text, step_fits, submissions_of}
+use Rattle.fw_sched.specs.Members.{number_at, seed_at, texts_at, fields, first_wrong, least_other}
+use Rattle.fw_sched.specs.Reading.{Reads}
 
--- the member of this name is this value
-abbrev pub Has : Members → List ℕ → Data → Type 0
-Has members name value = get_member name members ≡ Some value
+-- the bytes are a TOML document of these members
+pub record IsToml (bytes : List ℕ) (members : Members) : Type 0 where
+  pub utf8 : IsUtf8 bytes
+  pub parsed : parse_document bytes ≡ Some members
 
--- a whole number
-abbrev pub whole : ℕ → Data
-whole n = integer (pos n)
+-- what stands at the names of a document: sizes, seed, and the texts of its records, faulty seats and steps
+pub record Head : Type 0 where
+  pub params : Params
+  pub seed : List ℕ
+  pub records : List (List ℕ)
+  pub faulty : List (List ℕ)
+  pub steps : List (List ℕ)
 
--- an array of texts
-abbrev pub texts : List (List ℕ) → Items
-texts [] = no_items
-texts (t ∷ ts) = item (string t) (texts ts)
+abbrev pub HasNumber : Members → List ℕ → ℕ → Type 0
+HasNumber members name n = number_at members name ≡ Some n
 
--- the names that a document has
-abbrev pub known_names : List (List ℕ)
-known_names =
-    codes "version" ∷ codes "f" ∷ codes "g" ∷ codes "h" ∷ codes "numbers" ∷ codes "views" ∷ codes "clients" ∷ codes "stamps"
-    ∷ codes "pipe" ∷ codes "seed" ∷ codes "faulty" ∷ codes "records" ∷ codes "steps" ∷ []
-
-abbrev pub is_known : List ℕ → Bool
-is_known name = list_any (bytes_eq name) known_names
-
--- each member has one of these names
-abbrev pub HasNoOther : Members → Type 0
-HasNoOther members = (name : List ℕ) → IsSome (get_member name members) → IsTrue (is_known name)
-
--- the eight sizes
 pub record HasSizes (members : Members) (p : Params) : Type 0 where
-  pub f : Has members (codes "f") (whole p.f)
-  pub g : Has members (codes "g") (whole p.g)
-  pub h : Has members (codes "h") (whole p.h)
-  pub numbers : Has members (codes "numbers") (whole p.numbers)
-  pub views : Has members (codes "views") (whole p.views)
-  pub clients : Has members (codes "clients") (whole p.clients)
-  pub stamps : Has members (codes "stamps") (whole p.stamps)
-  pub pipe : Has members (codes "pipe") (whole p.pipe)
+  pub f : HasNumber members (codes "f") p.f
+  pub g : HasNumber members (codes "g") p.g
+  pub h : HasNumber members (codes "h") p.h
+  pub numbers : HasNumber members (codes "numbers") p.numbers
+  pub views : HasNumber members (codes "views") p.views
+  pub clients : HasNumber members (codes "clients") p.clients
+  pub stamps : HasNumber members (codes "stamps") p.stamps
+  pub pipe : HasNumber members (codes "pipe") p.pipe
 
--- 64 hexadecimal digits of these 32 bytes
-abbrev pub HasSeed : Members → List ℕ → Type 0
-HasSeed members seed = (text : List ℕ) × Has members (codes "seed") (string text) × (decode_sized text 32 ≡ Ok seed)
+-- the members have this head: each field is there, of its kind and within its limit, and there is no other name
+pub record HasHead (members : Members) (h : Head) : Type 0 where
+  pub right : first_wrong (fields members) ≡ None
+  pub sizes : HasSizes members h.params
+  pub seed : seed_at members ≡ Some h.seed
+  pub records : texts_at members (codes "records") ≡ Some h.records
+  pub faulty : texts_at members (codes "faulty") ≡ Some h.faulty
+  pub steps : texts_at members (codes "steps") ≡ Some h.steps
+  pub no_other : least_other members ≡ None
 
--- the steps' texts in order
-abbrev pub HasSteps : Members → List Step → Type 0
-HasSteps members steps = Has members (codes "steps") (array (texts (map step_text steps)))
+-- ---- the items of the three arrays
 
--- what a document's members say of a plan
-pub record Says (members : Members) (p : Plan) : Type 0 where
-  pub version : Has members (codes "version") (whole 1)
-  pub sizes : HasSizes members p.params
-  pub seed : HasSeed members p.seed
-  pub faulty : Has members (codes "faulty") (array no_items)
-  pub records : Has members (codes "records") (array no_items)
-  pub steps : HasSteps members p.steps
-  pub no_other : HasNoOther members
+-- a record: its text, within the deployment, and of a name that none before it has
+pub record IsRecord (p : Params) (before : List Start) (text : List ℕ) (s : Start) : Type 0 where
+  pub spelled : text ≡ start_text s
+  pub fits : IsTrue (start_fits p.clients s)
+  pub new : IsTrue (is_new before s)
 
--- which sizes a plan may have: those of a deployment, with one node of each kind
-pub record AreAllowed (p : Params) : Type 0 where
-  pub sizes : IsTrue (accepted p)
-  pub one_agreement_node : p.f ≡ 0
-  pub one_executor : p.g ≡ 0
-  pub one_filter : p.h ≡ 0
+-- how many of the seats are of the kind of this one
+abbrev pub same_kind : Seat → Seat → Bool
+same_kind (Agree i) (Agree j) = true
+same_kind (Exec i) (Exec j) = true
+same_kind (Filter r c) (Filter s d) = true
+same_kind _ _ = false
 
--- which plans there are so far: one node of each kind, and steps within the deployment's limits
-pub record IsAllowed (p : Plan) : Type 0 where
-  pub sizes : AreAllowed p.params
-  pub steps : IsTrue (list_all (step_fits p.params) p.steps)
-  pub submissions : (c : ℕ) → submissions_of c p.steps ≤ p.params.stamps
-  pub length : length p.steps ≤ MOST_STEPS
+abbrev pub count_of : Seat → List Seat → ℕ
+count_of seat [] = 0
+count_of seat (other ∷ seats) = if same_kind seat other then count_of seat seats + 1 else count_of seat seats
+
+-- one more of its kind may be faulty; of clients any number may
+abbrev pub may_fail : Params → List Seat → Seat → Bool
+may_fail p before (Agree i) = nat_lt (count_of (Agree i) before) p.f
+may_fail p before (Exec j) = nat_lt (count_of (Exec j) before) p.g
+may_fail p before (Filter r c) = nat_lt (count_of (Filter r c) before) p.h
+may_fail p before _ = true
+
+-- a faulty seat: its name, above those before it in the order of all seats, and not one too many of its kind
+pub record IsFaultySeat (p : Params) (before : List Seat) (text : List ℕ) (seat : Seat) : Type 0 where
+  pub named : text ≡ seat_name seat
+  pub fits : IsTrue (fits p seat)
+  pub above : IsTrue (list_all (λ s. nat_lt (seat_index p s) (seat_index p seat)) before)
+  pub few : IsTrue (may_fail p before seat)
+
+-- how often steps submit to a client
+abbrev pub submissions_of : ℕ → List Step → ℕ
+submissions_of c [] = 0
+submissions_of c (Submit client op ∷ steps) = if nat_eq client c then submissions_of c steps + 1 else submissions_of c steps
+submissions_of c (_ ∷ steps) = submissions_of c steps
+
+-- a submission is one of at most so many to its client
+abbrev pub is_free : Params → List Step → Step → Bool
+is_free p before (Submit client op) = nat_lt (submissions_of client before) p.stamps
+is_free p before _ = true
+
+-- a step: its text, within the deployment with these faulty seats, and not a submission too many
+pub record IsStep (p : Params) (faulty : List Seat) (before : List Step) (text : List ℕ) (s : Step) : Type 0 where
+  pub spelled : IsStepText text s
+  pub fits : IsTrue (step_fits p faulty s)
+  pub free : IsTrue (is_free p before s)
+
+-- ---- the whole
 
 -- the bytes are a document of the plan
 pub record IsDocument (bytes : List ℕ) (p : Plan) : Type 0 where
-  pub short : length bytes ≤ LONGEST_DOCUMENT
-  pub utf8 : IsUtf8 bytes
   pub members : Members
-  pub parsed : parse_document bytes ≡ Some members
-  pub says : Says members p
-  pub allowed : IsAllowed p
-
--- bytes that may want memory: such a text that has more than white space and comments
-pub record MayWant (bytes : List ℕ) : Type 0 where
-  pub short : length bytes ≤ LONGEST_DOCUMENT
-  pub utf8 : IsUtf8 bytes
-  pub written : ¬ IsBlank bytes
+  pub toml : IsToml bytes members
+  pub head : Head
+  pub says : HasHead members head
+  pub sizes : IsTrue (accepted p.params)
+  pub params : p.params ≡ head.params
+  pub seed : p.seed ≡ head.seed
+  pub starts : Reads (IsRecord p.params) [] head.records p.starts
+  pub faulty : Reads (IsFaultySeat p.params) [] head.faulty p.faulty
+  pub steps : Reads (IsStep p.params p.faulty) [] head.steps p.steps

@@ -1,4 +1,7 @@
 -- The definitions that the clauses cite.
-pub mod Steps
-pub mod Sizes
+pub mod Members
+pub mod Reading
 pub mod Document
+pub mod Faults
+pub mod Simple
+pub mod Stages

@@ -1,13 +1,18 @@
-//! The input: the document of a deployment and a schedule, and the plan that it is.
+//! The input: the document of a deployment and a schedule, the plan that it is, and what is wrong where it is none.
 #![tactic(auto)]
 
+mod arrays;
+mod fault;
+mod fields;
 mod limits;
 mod members;
 mod plan;
 mod read;
-mod schedule;
-mod steps;
+mod seats;
+mod tally;
 
-pub use limits::{LONGEST_DOCUMENT, MOST_FLUSHED, MOST_STEPS};
-pub use plan::{Plan, Step};
+pub use fault::InputFault;
+pub use fw_step::{Lie, LieAnswer, LieEntry, LieOp, LieReply, LieRequest, MOST_FLUSHED, Step};
+pub use limits::MOST_STEPS;
+pub use plan::{Plan, StepList};
 pub use read::read_plan;

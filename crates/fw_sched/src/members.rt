@@ -1,16 +1,15 @@
-//! What the members of a document are.
+//! What stands at the names of a document.
 
-ghost use Rattle.std.specs.Prelude.{◌≡◌, ◌↔◌, ◌<◌, ◌^◌, ℕ, List, IfSome, IfNone, MatchOption, IsTrue, option_map, string_bytes};
+ghost use Rattle.std.specs.Prelude.{◌≡◌, ◌↔◌, ℕ, List, MatchOption, IsTrue, Some, Ok, map, is_some, option_map, length};
 ghost use Rattle.std.specs.List.{list_all};
-ghost use Rattle.std.specs.Map.{keys_of};
 ghost use Rattle.std.specs.Option.{option_and_then};
-ghost use Rattle.toml.specs.Data.{get_member, as_str, as_array, no_items, array};
+ghost use Rattle.std.specs.Result.{result_ok};
+ghost use Rattle.hex.specs.Hex.{decode_sized};
+ghost use Rattle.toml.specs.Data.{get_member, as_str, as_array};
 ghost use Rattle.toml.specs.View.{table_view, items_view, view};
-ghost use Rattle.fw_base.specs.declared.params.Params.{Params};
-ghost use Rattle.fw_sched.specs.Document.{Has, whole, is_known, HasNoOther, HasSizes, HasSeed, AreAllowed};
-ghost use Rattle.fw_sched.specs.Sizes.{AreSmall};
+ghost use Rattle.fw_sched.specs.Members.{number_at, number_within, seed_at, texts_of, texts_at, is_known, least_other};
+ghost use Rattle.fw_sched.specs.Stages.{text_in};
 
-use fw_base::Params;
 use hex::FromHex;
 use toml::{Table, Value};
 
@@ -21,22 +20,32 @@ fn value_at<'a>(table: &'a Table, name: &str) -> Option<&'a Value>
     table.get(name)
 }
 
-/// The member of this name, if it is a whole number.
-pub(crate) fn whole_at(table: &Table, name: &str) -> Option<u32>
-    ensures { MatchOption result ((n : ℕ) → n < 2 ^ 32 → ¬ Has (table_view table.now) name.now (whole n)) (λ n. Has (table_view table.now) name.now (whole n)) }
+/// The whole number from 0 on that is the member of this name.
+pub(crate) fn number_at(table: &Table, name: &str) -> Option<u64>
+    ensures { result ≡ number_at (table_view table.now) name.now }
 {
     let number = match value_at(table, name) {
         Some(value) => value.as_integer(),
         None => None,
     };
     match number {
-        Some(number) if number >= 0 && number <= i64::from(u32::MAX) => Some(number as u32),
+        Some(number) if number >= 0 => Some(number as u64),
         _ => None,
     }
 }
 
+/// Whether the member of this name is such a number in a range.
+pub(crate) fn is_number_within(table: &Table, name: &str, least: u64, most: u64) -> bool
+    ensures { result ≡ number_within (table_view table.now) name.now least most }
+{
+    match number_at(table, name) {
+        Some(number) => least <= number && number <= most,
+        None => false,
+    }
+}
+
 /// The items of the member of this name, if it is an array.
-pub(crate) fn array_at<'a>(table: &'a Table, name: &str) -> Option<&'a [Value]>
+fn array_at<'a>(table: &'a Table, name: &str) -> Option<&'a [Value]>
     ensures { option_map (λ v. items_view v.now) result ≡ option_and_then as_array (get_member name.now (table_view table.now)) }
 {
     let values = match value_at(table, name) {
@@ -49,13 +58,37 @@ pub(crate) fn array_at<'a>(table: &'a Table, name: &str) -> Option<&'a [Value]>
     }
 }
 
-/// Whether the member of this name is an array without items.
-pub(crate) fn is_empty_at(table: &Table, name: &str) -> bool
-    ensures { IsTrue result ↔ Has (table_view table.now) name.now (array no_items) }
+fn is_text(value: &Value) -> bool
+    ensures { result ≡ is_some (as_str (view value.now)) }
 {
-    match array_at(table, name) {
-        Some(values) => values.is_empty(),
-        None => false,
+    value.as_str().is_some()
+}
+
+fn are_texts(values: &[Value]) -> bool
+    ensures { result ≡ list_all (λ v. is_some (as_str (view v))) values.now }
+{
+    values.iter().all(|value| is_text(value))
+}
+
+/// The items of the member of this name, if it is an array of texts.
+pub(crate) fn texts_at<'a>(table: &'a Table, name: &str) -> Option<&'a [Value]>
+    ensures { option_map (λ v. map text_in v.now) result ≡ texts_at (table_view table.now) name.now }
+{
+    let values = array_at(table, name)?;
+    if are_texts(values) {
+        Some(values)
+    } else {
+        None
+    }
+}
+
+/// The text of an item, or no text where it isn't one.
+pub(crate) fn text_in(value: &Value) -> &str
+    ensures { result.now ≡ text_in value.now }
+{
+    match value.as_str() {
+        Some(text) => text,
+        None => "",
     }
 }
 
@@ -69,49 +102,12 @@ fn text_at<'a>(table: &'a Table, name: &str) -> Option<&'a str>
 }
 
 /// The 32 bytes of the seed.
-pub(crate) fn seed_of(table: &Table) -> Option<[u8; 32]>
-    ensures { MatchOption result ((seed : List ℕ) → ¬ HasSeed (table_view table.now) seed) (λ seed. HasSeed (table_view table.now) seed) }
+pub(crate) fn seed_at(table: &Table) -> Option<[u8; 32]>
+    ensures { result ≡ seed_at (table_view table.now) }
 {
     match text_at(table, "seed") {
         Some(text) => <[u8; 32] as FromHex>::from_hex(text).ok(),
         None => None,
-    }
-}
-
-/// The eight sizes.
-fn sizes_of(table: &Table) -> Option<Params>
-    ensures { MatchOption result ((p : Params) → AreSmall p → ¬ HasSizes (table_view table.now) p) (λ p. HasSizes (table_view table.now) p) }
-{
-    Some(Params {
-        f: whole_at(table, "f")?,
-        g: whole_at(table, "g")?,
-        h: whole_at(table, "h")?,
-        numbers: whole_at(table, "numbers")?,
-        views: whole_at(table, "views")?,
-        clients: whole_at(table, "clients")?,
-        stamps: whole_at(table, "stamps")?,
-        pipe: whole_at(table, "pipe")?,
-    })
-}
-
-/// Whether a plan may have these sizes.
-fn are_allowed(params: &Params) -> bool
-    ensures { IsTrue result ↔ AreAllowed params.now }
-{
-    params.are_accepted() && params.f == 0 && params.g == 0 && params.h == 0
-}
-
-/// The sizes of a plan.
-pub(crate) fn params_of(table: &Table) -> Option<Params>
-    ensures { MatchOption result ((p : Params) → AreAllowed p → ¬ HasSizes (table_view table.now) p) (λ p. HasSizes (table_view table.now) p × AreAllowed p) }
-{
-    let Some(params) = sizes_of(table) else {
-        return None;
-    };
-    if are_allowed(&params) {
-        Some(params)
-    } else {
-        None
     }
 }
 
@@ -136,15 +132,14 @@ fn is_known(name: &str) -> bool
     )
 }
 
-fn keys_are_known(table: &Table) -> bool
-    ensures { result ≡ list_all (λ key. is_known (string_bytes key)) (keys_of table.now.entries) }
+/// The least of the names that a document doesn't have.
+pub(crate) fn least_other(table: &Table) -> Option<&str>
+    ensures { option_map (λ name. name.now) result ≡ least_other (table_view table.now) }
 {
-    table.keys().all(|key| is_known(key.as_str()))
-}
-
-/// Whether each member has a name of a document.
-pub(crate) fn has_no_other(table: &Table) -> bool
-    ensures { IsTrue result ↔ HasNoOther (table_view table.now) }
-{
-    keys_are_known(table)
+    for (name, _value) in table.iter() {
+        if !is_known(name.as_str()) {
+            return Some(name.as_str());
+        }
+    }
+    None
 }

@@ -1,72 +1,115 @@
 //! The reader of a document.
 
-ghost use Rattle.std.specs.Prelude.{◌↔◌, codes, IfOk, OnErr, IfSome, IfNone, IsTrue};
-ghost use Rattle.toml.specs.Data.{no_items, array};
+ghost use Rattle.std.specs.Prelude.{◌≡◌, ◌≤◌, List, length, None, Ok, Err, IfOk, IfErr, OnErr, IsTrue};
 ghost use Rattle.toml.specs.View.{table_view};
-ghost use Rattle.fw_sched.specs.Document.{Has, whole, HasNoOther, Says, IsAllowed, IsDocument, MayWant};
+ghost use Rattle.fw_base.specs.Checks.{fault_of};
+ghost use Rattle.fw_base.specs.Sizes.{accepted};
+ghost use Rattle.fw_sched.specs.declared.limits.TheConstants.{MOST_STEPS};
+ghost use Rattle.fw_sched.specs.declared.plan.Plan.{Plan};
+ghost use Rattle.fw_sched.specs.declared.fault.InputFault.{InputFault};
+ghost use Rattle.fw_sched.specs.Document.{IsDocument};
+ghost use Rattle.fw_sched.specs.Faults.{IsFault, MayWant};
+ghost use Rattle.fw_sched.specs.Stages.{said, FromFaulty, FromRecords, FromSizes, IsVerdict};
 
-use crate::members::{has_no_other, is_empty_at, params_of, seed_of, whole_at};
-use crate::schedule::{are_few, steps_at};
-use crate::{LONGEST_DOCUMENT, MOST_STEPS, Plan};
-use fw_list::Memory;
+use crate::arrays::{faulty_in, starts_in, steps_in};
+use crate::fields::{Head, head_of};
+use crate::{InputFault, Plan};
+use fw_base::{ParamFault, Seats};
+use fw_list::{Bytes, Memory};
+use fw_op::Starts;
 use std::alloc::Global;
 use toml::Table;
 
-/// Whether the members that are the same in each document are there, and no others than a document has.
-fn is_framed(table: &Table) -> bool
-    ensures { IsTrue result ↔ (Has (table_view table.now) (codes "version") (whole 1) × Has (table_view table.now) (codes "faulty") (array no_items) × Has (table_view table.now) (codes "records") (array no_items) × HasNoOther (table_view table.now)) }
+/// The plan behind the records and the faulty seats, or the first step that isn't one.
+fn from_faulty(
+    alloc: Global,
+    head: &Head<'_>,
+    starts: Starts,
+    faulty: Seats,
+) -> Result<Result<Plan, InputFault>, Memory>
+    requires few { length head.now.steps.now ≤ MOST_STEPS }
+    requires sizes { IsTrue (accepted head.now.params) }
+    ensures { IfOk result (λ verdict. FromFaulty (said head.now) starts (Ok faulty) verdict) }
 {
-    match whole_at(table, "version") {
-        Some(1) => {
-            is_empty_at(table, "faulty") && is_empty_at(table, "records") && has_no_other(table)
-        }
-        _ => false,
+    match steps_in(alloc, &head.params, faulty.items(), head.steps)? {
+        Ok(steps) => Ok(Ok(Plan {
+            params: head.params,
+            seed: head.seed,
+            faulty,
+            starts,
+            steps,
+        })),
+        Err(index) => Ok(Err(InputFault::Step { index })),
     }
 }
 
-/// The plan that a document's members say.
-fn plan_of(alloc: Global, table: &Table) -> Result<Option<Plan>, Memory>
-    ensures found { IfOk result (λ plan. IfSome plan (λ p. Says (table_view table.now) p × IsAllowed p)) }
-    ensures none { IfOk result (λ plan. IfNone plan ((p : Plan) → IsAllowed p → ¬ Says (table_view table.now) p)) }
-    ensures memory { OnErr result (Has (table_view table.now) (codes "version") (whole 1)) }
+/// The plan behind the records, or the first faulty seat or step that isn't one.
+fn from_records(
+    alloc: Global,
+    head: &Head<'_>,
+    starts: Starts,
+) -> Result<Result<Plan, InputFault>, Memory>
+    requires few { length head.now.steps.now ≤ MOST_STEPS }
+    requires sizes { IsTrue (accepted head.now.params) }
+    ensures { IfOk result (λ verdict. FromRecords (said head.now) (Ok starts) verdict) }
 {
-    if !is_framed(table) {
-        return Ok(None);
+    match faulty_in(alloc, &head.params, head.faulty)? {
+        Ok(faulty) => from_faulty(alloc, head, starts, faulty),
+        Err(index) => Ok(Err(InputFault::Faulty { index })),
     }
-    let Some(params) = params_of(table) else {
-        return Ok(None);
-    };
-    let Some(seed) = seed_of(table) else {
-        return Ok(None);
-    };
-    let Some(steps) = steps_at(alloc, params, table)? else {
-        return Ok(None);
-    };
-    if steps.len() > MOST_STEPS {
-        return Ok(None);
-    }
-    if !are_few(params, steps.items()) {
-        return Ok(None);
-    }
-    Ok(Some(Plan {
-        params,
-        seed,
-        steps,
-    }))
 }
 
-/// Reads the plan of which the bytes are a document, or answers that they are a document of none. Memory is wanted only for a
-/// text of the length of a document that says something; the reader of TOML doesn't tell more than that.
-pub fn read_plan(alloc: Global, bytes: &[u8]) -> Result<Option<Plan>, Memory>
-    ensures found { IfOk result (λ plan. IfSome plan (λ p. IsDocument bytes.now p)) }
-    ensures none { IfOk result (λ plan. IfNone plan ((p : Plan) → ¬ IsDocument bytes.now p)) }
+/// The plan behind the sizes, or the first record, faulty seat or step that isn't one.
+fn from_sizes(alloc: Global, head: &Head<'_>) -> Result<Result<Plan, InputFault>, Memory>
+    requires records { length head.now.records.now ≤ MOST_STEPS }
+    requires steps { length head.now.steps.now ≤ MOST_STEPS }
+    requires sizes { IsTrue (accepted head.now.params) }
+    ensures { IfOk result (λ verdict. FromSizes (said head.now) None verdict) }
+{
+    match starts_in(alloc, &head.params, head.records)? {
+        Ok(starts) => from_records(alloc, head, starts),
+        Err(index) => Ok(Err(InputFault::Record { index })),
+    }
+}
+
+/// The plan behind the head, or its first fault.
+fn from_head(alloc: Global, head: &Head<'_>) -> Result<Result<Plan, InputFault>, Memory>
+    requires records { length head.now.records.now ≤ MOST_STEPS }
+    requires steps { length head.now.steps.now ≤ MOST_STEPS }
+    ensures { IfOk result (λ verdict. FromSizes (said head.now) (fault_of head.now.params) verdict) }
+{
+    match head.params.check() {
+        Ok(_) => from_sizes(alloc, head),
+        Err(ParamFault::Field(_)) => Ok(Err(InputFault::Field {
+            name: Bytes::copy_of(alloc, b"numbers")?,
+        })),
+        Err(ParamFault::TooManyKeys(keys)) => Ok(Err(InputFault::Keys { keys })),
+    }
+}
+
+/// The plan that a document's members say, or their first fault.
+fn plan_of(alloc: Global, table: &Table) -> Result<Result<Plan, InputFault>, Memory>
+    ensures { IfOk result (λ verdict. IsVerdict (table_view table.now) verdict) }
+{
+    match head_of(table) {
+        Ok(head) => from_head(alloc, &head),
+        Err(name) => Ok(Err(InputFault::Field {
+            name: Bytes::copy_of(alloc, name.as_bytes())?,
+        })),
+    }
+}
+
+/// Reads the plan of which the bytes are a document, or names their first fault. Memory is wanted only for a text: the reader of
+/// TOML doesn't tell more than that.
+pub fn read_plan(alloc: Global, bytes: &[u8]) -> Result<Result<Plan, InputFault>, Memory>
+    ensures plan { IfOk result (λ read. IfOk read (λ p. IsDocument bytes.now p)) }
+    ensures fault { IfOk result (λ read. IfErr read (λ f. IsFault bytes.now f)) }
+    ensures only { IfOk result (λ read. (p : Plan) → IsDocument bytes.now p → read ≡ Ok p) }
+    ensures first { IfOk result (λ read. (f : InputFault) → IsFault bytes.now f → read ≡ Err f) }
     ensures memory { OnErr result (MayWant bytes.now) }
 {
-    if bytes.len() > LONGEST_DOCUMENT {
-        return Ok(None);
-    }
     let Ok(text) = str::from_utf8(bytes) else {
-        return Ok(None);
+        return Ok(Err(InputFault::NotToml));
     };
     match toml::table_from_str(alloc, text) {
         Ok(table) => plan_of(alloc, &table),
@@ -74,7 +117,7 @@ pub fn read_plan(alloc: Global, bytes: &[u8]) -> Result<Option<Plan>, Memory>
             if error.is_memory() {
                 Err(Memory)
             } else {
-                Ok(None)
+                Ok(Err(InputFault::NotToml))
             }
         }
     }

@@ -20,7 +20,7 @@ use Rattle.fw_rules.specs.World.{rules_by, world_by}
 use Rattle.fw_world.specs.Nodes.{Nodes, node_rule, nodes_rule}
 use Rattle.fw_world.specs.Delivery.{delivery}
 use Rattle.fw_world.specs.Schedule.{schedule, step_of_run}
-use Rattle.fw_sched.specs.declared.plan.Step.{Step}
+use Rattle.fw_step.specs.declared.step.Step.{Step}
 use Rattle.fw_world.proofs.Places.{drop_read}
 
 pub cond_true : {A : Type 0} (b : Bool) (x y : A) → IsTrue b → cond b x y ≡ x

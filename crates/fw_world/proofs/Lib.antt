@@ -3,3 +3,4 @@ pub mod Places
 pub mod Events
 pub mod Counting
 pub mod OwnRules
+pub mod Simple

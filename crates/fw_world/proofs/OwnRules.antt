@@ -8,7 +8,7 @@ use Rattle.fw_base.specs.declared.seat.Seat.{Seat}
 use Rattle.fw_base.specs.declared.seat.Seat.TheVariants.{Agree, Exec, Filter, Client}
 use Rattle.fw_base.specs.Seats.{fits}
 use Rattle.fw_op.specs.declared.op.Op.{Op}
-use Rattle.fw_sched.specs.declared.plan.Step.{Step}
+use Rattle.fw_step.specs.declared.step.Step.{Step}
 use Rattle.fw_trace.specs.Role.{sends}
 use Rattle.fw_trace.specs.Trace.{Trace, nothing}
 use Rattle.fw_trace.specs.Run as runs

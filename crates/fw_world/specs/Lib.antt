@@ -1,4 +1,5 @@
 -- The files of definitions.
+pub mod Single
 pub mod Schedule
 pub mod Summary
 pub mod Rows

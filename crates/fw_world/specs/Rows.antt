@@ -3,8 +3,8 @@ use Rattle.std.specs.Prelude.{ℕ, ◌≡◌, List, [], ◌∷◌, Option, Some,
 use Rattle.std.specs.Fmt.{digits}
 use Rattle.fw_store.specs.Store.{name_cmp}
 use Rattle.fw_base.specs.declared.params.Params.{Params}
-use Rattle.fw_sched.specs.declared.plan.Step.{Step}
-use Rattle.fw_sched.specs.declared.plan.Step.TheVariants.{Submit, Flush}
+use Rattle.fw_step.specs.declared.step.Step.{Step}
+use Rattle.fw_step.specs.declared.step.Step.TheVariants.{Submit, Flush}
 use Rattle.fw_op.specs.declared.op.Op.{Op}
 use Rattle.fw_op.specs.declared.op.Op.TheVariants.{Put, Get}
 use Rattle.fw_trace.specs.Trace.{Trace}

@@ -9,7 +9,7 @@ use Rattle.fw_node.specs.declared.Message.{Message}
 use Rattle.fw_node.specs.Given.{Taken}
 use Rattle.fw_rules.specs.Agree.{Out}
 use Rattle.fw_rules.specs.World.{rules_by, world_by}
-use Rattle.fw_sched.specs.Document.{AreAllowed}
+use Rattle.fw_world.specs.Single.{AreSingle}
 use Rattle.fw_world.specs.Nodes.{Nodes, Stands, AllStand, nodes_rule}
 
 -- its sizes, its nodes, its trace, and whether a step failed
@@ -29,6 +29,6 @@ world_of a e f c w = world_by w.params (nodes_rule a e f c w.params w.nodes)
 
 -- the sizes are those of a single node of each kind, and each node stands for its history while nothing failed
 pub record Holds {A E F C : Type 0} (a : Stands A) (e : Stands E) (f : Stands F) (c : Stands C) (p : Params) (nodes : Nodes A E F C) (log : List (Logged Message Op)) (failed : Bool) : Type 0 where
-  pub single : AreAllowed p
+  pub single : AreSingle p
   pub clients : length nodes.clients ≡ p.clients
   pub stand : failed ≡ false → AllStand a e f c p nodes (λ seat. history seat log)

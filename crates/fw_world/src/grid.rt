@@ -6,7 +6,7 @@ ghost use Rattle.fw_base.specs.declared.seat.Seat.{Seat};
 ghost use Rattle.fw_base.specs.declared.seat.Seat.TheVariants as seats;
 ghost use Rattle.fw_base.specs.Seats.{fits};
 ghost use Rattle.fw_node.specs.Given.{Taken, taken};
-ghost use Rattle.fw_sched.specs.Document.{AreAllowed};
+ghost use Rattle.fw_world.specs.Single.{AreSingle};
 ghost use Rattle.fw_world.specs.Nodes.{node_rule, rule_or_none, AllStand, with_input};
 ghost use Rattle.fw_world.specs.GridNodes.{nodes_of};
 
@@ -53,7 +53,7 @@ pub fn give<A: Node, E: Node, F: Node, C: Node>(
     input: Given<'_>,
     out: &mut Outbox,
 ) -> Result<(), Memory>
-    requires single { AreAllowed params.now }
+    requires single { AreSingle params.now }
     requires seat { IsTrue (fits params.now seat) }
     requires clients { length grid.old.clients.items ≡ params.now.clients }
     ensures clients { length grid.new.clients.items ≡ length grid.old.clients.items }

@@ -8,7 +8,7 @@ ghost use Rattle.fw_client.specs.Standing.{Asker};
 ghost use Rattle.fw_trace.specs.Role.{sends};
 ghost use Rattle.fw_rules.specs.World.{rule_of};
 ghost use Rattle.fw_rules.specs.Speeches.{client_role};
-ghost use Rattle.fw_sched.specs.Document.{AreAllowed};
+ghost use Rattle.fw_world.specs.Single.{AreSingle};
 ghost use Rattle.fw_world.specs.Nodes.{AllStand, nodes_rule};
 ghost use Rattle.fw_world.specs.GridNodes.{nodes_of};
 
@@ -40,7 +40,7 @@ fn clients(alloc: Global, params: &Params) -> Result<Vec<ClientNode>, Memory>
 
 /// New nodes for a deployment that has one of each kind.
 pub fn cores(alloc: Global, params: &Params) -> Result<Cores, Memory>
-    requires { AreAllowed params.now }
+    requires { AreSingle params.now }
     ensures clients { IfOk result (λ grid. length grid.clients.items ≡ params.now.clients) }
     ensures fresh { IfOk result (λ grid. AllStand ⟦<AgreeNode as Node>⟧.stands_for ⟦<ExecNode as Node>⟧.stands_for ⟦<FilterNode as Node>⟧.stands_for ⟦<ClientNode as Node>⟧.stands_for params.now (nodes_of grid) (λ seat. [])) }
     // The nodes have the rules of the four roles.

@@ -1,7 +1,7 @@
 //! A whole replay.
 
 ghost use Rattle.std.specs.Prelude.{IfOk};
-ghost use Rattle.fw_sched.specs.Document.{IsAllowed};
+ghost use Rattle.fw_world.specs.Schedule.{MayRun};
 ghost use Rattle.fw_world.specs.Replay.{IsReportOf};
 
 use crate::{World, cores};
@@ -13,7 +13,7 @@ use std::alloc::Global;
 
 /// Runs the schedule of a plan over new nodes, and gives the report of the run.
 pub fn replay(alloc: Global, plan: &Plan) -> Result<Bytes, Memory>
-    requires { IsAllowed plan.now }
+    requires { MayRun plan.now }
     ensures { IfOk result (λ text. IsReportOf plan.now text) }
 {
     law_accepted();

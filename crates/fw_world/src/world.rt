@@ -9,7 +9,7 @@ ghost use Rattle.fw_base.specs.declared.seat.Seat.TheVariants as seats;
 ghost use Rattle.fw_base.specs.Seats.{fits};
 ghost use Rattle.fw_node.specs.Given.{Taken};
 ghost use Rattle.fw_trace.specs.Trace.{from_seat};
-ghost use Rattle.fw_sched.specs.Document.{AreAllowed};
+ghost use Rattle.fw_world.specs.Single.{AreSingle};
 ghost use Rattle.fw_world.specs.Nodes.{node_rule, AllStand, with_input};
 ghost use Rattle.fw_world.specs.GridNodes.{nodes_of};
 
@@ -90,7 +90,7 @@ fn take_in<A: Node, E: Node, F: Node, C: Node>(
     log: &mut Newest<Logged<Message, Op>>,
     logged: Logged<Message, Op>,
 ) -> Result<(), Memory>
-    requires single { AreAllowed params.now }
+    requires single { AreSingle params.now }
     requires seat { IsTrue (fits params.now logged.seat) }
     requires clients { length grid.old.clients.items ≡ params.now.clients }
     ensures clients { length grid.new.clients.items ≡ length grid.old.clients.items }
@@ -119,16 +119,15 @@ impl<A: Node, E: Node, F: Node, C: Node> World<A, E, F, C> {
     ghost use Rattle.fw_trace.specs.Trace.{takes, after, nothing, next_frame};
     ghost use Rattle.fw_trace.specs.Trace.{Submits, Delivers};
     ghost use Rattle.fw_trace.specs.Run as runs;
-    ghost use Rattle.fw_sched.specs.Steps.{step_fits};
-    ghost use Rattle.fw_sched.specs.Document.{AreAllowed};
+    ghost use Rattle.fw_world.specs.Single.{AreSingle};
     ghost use Rattle.fw_world.specs.Nodes.{AllStand};
     ghost use Rattle.fw_world.specs.GridNodes.{nodes_of};
-    ghost use Rattle.fw_world.specs.Schedule.{schedule, step_of_run};
+    ghost use Rattle.fw_world.specs.Schedule.{schedule, step_of_run, may_run};
     ghost use Rattle.fw_world.specs.Seen.{rules_of, world_of};
 
     /// A world of new nodes.
     pub fn new(alloc: Global, params: Params, grid: Grid<A, E, F, C>) -> Self
-        requires single { AreAllowed params }
+        requires single { AreSingle params }
         requires clients { length grid.clients.items ≡ params.clients }
         requires fresh { AllStand A.stands_for E.stands_for F.stands_for C.stands_for params (nodes_of grid) (λ seat. []) }
         ensures { result ≡ record { params = params; nodes = nodes_of grid; trace = nothing; failed = false } }
@@ -236,7 +235,7 @@ impl<A: Node, E: Node, F: Node, C: Node> World<A, E, F, C> {
     /// One step of a schedule.
     fn step(&mut self, step: &Step) -> Result<(), Memory>
         requires going { self.old.failed ≡ false }
-        requires fits { IsTrue (step_fits self.old.params step.now) }
+        requires fits { IsTrue (may_run self.old.params step.now) }
         ensures params { self.new.params ≡ self.old.params }
         ensures rules { rules_of A.rule E.rule F.rule C.rule self.new ≡ rules_of A.rule E.rule F.rule C.rule self.old }
         ensures going { OnOk result (self.new.failed ≡ false) }
@@ -246,13 +245,14 @@ impl<A: Node, E: Node, F: Node, C: Node> World<A, E, F, C> {
         match step {
             Step::Submit { client, op } => self.submit(*client, op),
             Step::Flush { most } => self.flush(*most),
+            _ => unreachable!(),
         }
     }
 
     /// Runs the steps of a schedule, in order. After want of memory the world has failed, and else it hasn't.
     pub fn run(&mut self, steps: &[Step]) -> Result<(), Memory>
         requires going { self.old.failed ≡ false }
-        requires fit { IsTrue (list_all (step_fits self.old.params) steps.now) }
+        requires fit { IsTrue (list_all (may_run self.old.params) steps.now) }
         ensures params { self.new.params ≡ self.old.params }
         ensures rules { rules_of A.rule E.rule F.rule C.rule self.new ≡ rules_of A.rule E.rule F.rule C.rule self.old }
         ensures going { OnOk result (self.new.failed ≡ false) }

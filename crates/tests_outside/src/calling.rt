@@ -1,8 +1,9 @@
-//! The call over a source and a sink that fail.
+//! The call over a source and a sink that fail, over those that never do, and over a source that makes its bytes.
 
+use crate::failing::Endless;
 use fw_base::IdleLink;
-use fw_call::{Status, firewall};
-use fw_io::{Calls, MemorySink, MemorySource, ReaderSource};
+use fw_call::{LONGEST_INPUT, firewall};
+use fw_io::{Calls, MemorySink, MemorySource, ReaderSource, SteadySink, SteadySource};
 use fw_list::Bytes;
 use std::alloc::Global;
 use std::process::Abort;
@@ -38,7 +39,7 @@ struct Outside {
 fn expect(
     rt: &(impl Abort + Alloc<A = Global>),
     outside: &Outside,
-    status: Status,
+    code: u8,
     text: &[u8],
 ) -> Result<(), Fail> {
     let alloc = rt.alloc();
@@ -48,7 +49,7 @@ fn expect(
     let mut sink = MemorySink::new(alloc, outside.room, failing(alloc, outside.sink_fails)?)?;
     let mut link = IdleLink::new();
     let answer = firewall(alloc, &words, &mut source, &mut sink, &mut link);
-    assert_eq!(rt; answer, status);
+    assert_eq!(rt; answer.code(), code);
     assert_eq!(rt; sink.written(), text);
     Ok(())
 }
@@ -60,19 +61,19 @@ fn a_source_or_a_sink_fails(rt: HostRuntime) -> Result<(), Fail> {
         sink_fails: None,
         room: 1000,
     };
-    expect(&rt, &source, Status::ReadFault, b"fault read\n")?;
+    expect(&rt, &source, 2, b"fault read\n")?;
     let sink = Outside {
         source_fails: None,
         sink_fails: Some(0),
         room: 1000,
     };
-    expect(&rt, &sink, Status::WriteFault, b"")?;
+    expect(&rt, &sink, 3, b"")?;
     let full = Outside {
         source_fails: None,
         sink_fails: None,
         room: 10,
     };
-    expect(&rt, &full, Status::WriteFault, b"agreed 1 c")
+    expect(&rt, &full, 3, b"agreed 1 c")
 }
 
 /// The status of a replay of bytes that a reader of the standard library tells.
@@ -84,7 +85,36 @@ fn a_reader_tells_its_document(rt: HostRuntime) -> Result<(), Fail> {
     let mut sink = MemorySink::new(alloc, 1000, failing(alloc, None)?)?;
     let mut link = IdleLink::new();
     let answer = firewall(alloc, &words, &mut source, &mut sink, &mut link);
-    assert_eq!(rt; answer, Status::Ok);
+    assert_eq!(rt; answer.code(), 0);
     assert_eq!(rt; sink.written().len(), 103);
+    Ok(())
+}
+
+/// The status of a replay over a source and a sink that never fail.
+#[test]
+fn nothing_fails(rt: HostRuntime) -> Result<(), Fail> {
+    let alloc = rt.alloc();
+    let words = replay(alloc)?;
+    let mut source = SteadySource::new(Bytes::copy_of(alloc, ONE_PUT.as_bytes())?);
+    let mut sink = SteadySink::new();
+    let mut link = IdleLink::new();
+    let answer = firewall(alloc, &words, &mut source, &mut sink, &mut link);
+    assert_eq!(rt; answer.code(), 0);
+    Ok(())
+}
+
+/// An input of one byte more than it may have, which its reader makes as it is read.
+#[test]
+fn an_input_is_too_long(rt: HostRuntime) -> Result<(), Fail> {
+    let alloc = rt.alloc();
+    let words = replay(alloc)?;
+    let mut source = ReaderSource::new(Endless {
+        left: LONGEST_INPUT + 1,
+    });
+    let mut sink = MemorySink::new(alloc, 1000, failing(alloc, None)?)?;
+    let mut link = IdleLink::new();
+    let answer = firewall(alloc, &words, &mut source, &mut sink, &mut link);
+    assert_eq!(rt; answer.code(), 6);
+    assert_eq!(rt; sink.written(), b"fault too-long\n".as_slice());
     Ok(())
 }

@@ -1,4 +1,4 @@
-//! A reader and a writer that move one byte a call, and fail at one call.
+//! A reader and a writer that move one byte a call, and fail at one call; and a reader that makes its bytes.
 
 use std::io;
 use std::io::{ErrorKind, Read, Write};
@@ -48,5 +48,24 @@ impl Write for Halting {
 
     fn flush(&mut self) -> io::Result<()> {
         Ok(())
+    }
+}
+
+/// A reader that has so many `#` left.
+#[derive(Drop)]
+pub struct Endless {
+    pub left: usize,
+}
+
+impl Read for Endless {
+    fn read(&mut self, buf: &mut [u8]) -> io::Result<usize> {
+        let n = if self.left < buf.len() {
+            self.left
+        } else {
+            buf.len()
+        };
+        buf[..n].fill(b'#');
+        self.left -= n;
+        Ok(n)
     }
 }

@@ -14,10 +14,17 @@ use Rattle.fw_world.specs.GridNodes.{nodes_of}
 use Rattle.fw_world.specs.Schedule.{schedule}
 use Rattle.fw_world.specs.Summary.{summary_of}
 use Rattle.fw_world.proofs.OwnRules.{own_run}
+use Rattle.fw_world.proofs.Simple.{are_single, steps_run}
 use Rattle.fw_world.proofs.playing.replay.Goals as goal
 
+pub cores-requires : goal.cores-requires
+cores-requires c = are_single c.args.plan.now c.requires
+
+pub new-world-requires-clause-single : goal.new-world-requires-clause-single
+new-world-requires-clause-single c = are_single c.args.plan.now c.requires
+
 pub run-requires-clause-fit : goal.run-requires-clause-fit
-run-requires-clause-fit c = rw (c.items.ensures, c.new-world.ensures) c.requires.steps
+run-requires-clause-fit c = rw (c.items.ensures, c.new-world.ensures) (steps_run c.args.plan.now c.requires)
 
 pub returns : goal.returns
 returns c =

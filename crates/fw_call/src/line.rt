@@ -1,0 +1,49 @@
+//! The line that names what is wrong with an input.
+
+ghost use Rattle.std.specs.Prelude.{◌≡◌, ◌++◌, IfOk, OnOk};
+ghost use Rattle.fw_call.specs.Lines.{input_words, input_line};
+
+use fw_list::{Bytes, Memory};
+use fw_sched::InputFault;
+use std::alloc::Global;
+
+/// Adds what is wrong, and where.
+fn add_words(line: &mut Bytes, fault: &InputFault) -> Result<(), Memory>
+    ensures { OnOk result (line.new ≡ line.old ++ input_words fault.now) }
+{
+    match fault {
+        InputFault::NotToml => line.append(b"not-toml"),
+        InputFault::Field { name } => {
+            line.append(b"field ")?;
+            line.append(name.items())
+        }
+        InputFault::Keys { keys } => {
+            line.append(b"keys ")?;
+            line.append_number(*keys)
+        }
+        InputFault::Record { index } => {
+            line.append(b"record ")?;
+            line.append_number(*index)
+        }
+        InputFault::Faulty { index } => {
+            line.append(b"faulty ")?;
+            line.append_number(*index)
+        }
+        InputFault::Step { index } => {
+            line.append(b"step ")?;
+            line.append_number(*index)
+        }
+        InputFault::Seat => line.append(b"seat"),
+        InputFault::Hand => line.append(b"hand"),
+    }
+}
+
+/// The line of an input that is wrong.
+pub(crate) fn input_line(alloc: Global, fault: &InputFault) -> Result<Bytes, Memory>
+    ensures { IfOk result (λ line. line ≡ input_line fault.now) }
+{
+    let mut line = Bytes::copy_of(alloc, b"fault input ")?;
+    add_words(&mut line, fault)?;
+    line.append(b"\n")?;
+    Ok(line)
+}

@@ -1,0 +1,4 @@
+-- The files of lemmas.
+pub mod InRows
+pub mod Ranges
+pub mod Seats

@@ -1,0 +1,6 @@
+//! The directory of a deployment: the digest of each dealt value, by its place.
+#![tactic(auto)]
+
+mod directory;
+
+pub use directory::Directory;

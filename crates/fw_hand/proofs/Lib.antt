@@ -1,0 +1,10 @@
+-- The files of lemmas.
+pub mod Along
+pub mod Finding
+pub mod Heads
+pub mod Items
+pub mod Larger
+pub mod OwnSlots
+pub mod Rows
+pub mod Whole
+pub mod Beginning

@@ -1,0 +1,4 @@
+-- The files of definitions.
+pub mod Hands
+pub mod Files
+pub mod Reading

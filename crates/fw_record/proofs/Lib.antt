@@ -1,0 +1,6 @@
+-- The files of lemmas.
+pub mod Reading
+pub mod Finding
+pub mod Lists
+pub mod Rising
+pub mod Texts

@@ -1,0 +1,4 @@
+-- The files of definitions.
+pub mod Records
+pub mod Parts
+pub mod Reading

@@ -1,0 +1,4 @@
+-- The files of definitions.
+pub mod Streams
+pub mod Dealt
+pub mod Pieces

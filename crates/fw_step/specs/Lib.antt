@@ -1,0 +1,5 @@
+-- The files of definitions.
+pub mod Spelling
+pub mod Fitting
+pub mod Parts
+pub mod Simple
