@@ -1,5 +1,5 @@
 // The plain yardstick of bench/deal: the textbook forms of SHA-256 (FIPS 180-4) and ChaCha20 (RFC 8439), and the same work as
-// crates/bench_deal does, with the same answer. Built by: rustc -O bench/deal.rs
+// `deal public` does, with the same answer. Built by: rustc -O bench/deal.rs
 use std::env;
 use std::io::{self, Write};
 use std::process::exit;

@@ -1,5 +1,5 @@
 // The yardstick of bench/field: the same work in plain Rust, in the same way (products by one table of powers and one of
-// logarithms, replies by steps that are the same for all bytes). Words as those of crates/bench_field, without `products`;
+// logarithms, replies by steps that are the same for all bytes). Words as those of crates/bench_field;
 // it prints the same sum.
 use std::env;
 

@@ -1,4 +1,4 @@
-// Plain Rust beside crates/bench_frame: reads a new view frame, borrowing its bytes. Words: read COUNT and the eight sizes.
+// Plain Rust beside the word `read` of crates/try_valid: reads a new view frame, borrowing its bytes. Words: read COUNT and the eight sizes.
 use std::io::Read;
 
 struct Params {

@@ -1,4 +1,4 @@
-//! Products, combined replies and split bytes, many at a time, for `checks/field` and `bench/field`.
+//! Products, combined replies and split bytes, many at a time, for `bench/field`.
 #![tactic(auto)]
 
 ghost use Rattle.std.specs.Prelude.{◌≡◌, ◌<◌, ◌≤◌, length, All};
@@ -6,13 +6,12 @@ ghost use Rattle.fw_shamir.specs.Polynomial.{AreDistinct};
 
 use fw_args::words;
 use fw_shamir::{Weights, gf_mul, split};
-use std::io::{self, BufWriter, Write};
+use std::io;
 use std::process::ExitCode;
 
 /// What the words ask for.
 #[derive(Clone, Copy)]
 enum Task {
-    Products,
     Multiply(u32),
     CombineTwo(u32),
     CombineFour(u32),
@@ -22,12 +21,8 @@ enum Task {
 impl Task {
     /// The task that the words name.
     fn from_words(words: &[String]) -> Option<Task> {
-        let name = words.first()?.as_str();
-        if name == "products" {
-            return Some(Task::Products);
-        }
         let count = words.get(1)?.as_str().parse::<u32>().ok()?;
-        match name {
+        match words.first()?.as_str() {
             "multiply" => Some(Task::Multiply(count)),
             "combine2" => Some(Task::CombineTwo(count)),
             "combine4" => Some(Task::CombineFour(count)),
@@ -35,17 +30,6 @@ impl Task {
             _ => None,
         }
     }
-}
-
-/// Writes the products of each byte by all, a line for each.
-fn write_products(out: &mut impl Write) -> io::Result<()> {
-    for a in 0..=255u8 {
-        for b in 0..=255u8 {
-            write!(out, "{:02x}", gf_mul(a, b))?;
-        }
-        writeln!(out, "")?;
-    }
-    Ok(())
 }
 
 /// The sum of all bytes, without carries.
@@ -135,18 +119,12 @@ fn main(rt: HostRuntime) -> io::Result<ExitCode> {
         return Ok(ExitCode::from(10));
     };
     let sum = match Task::from_words(&words) {
-        Some(Task::Products) => {
-            let mut out = BufWriter::new(rt.alloc(), rt.stdout())?;
-            write_products(&mut out)?;
-            out.flush()?;
-            return Ok(ExitCode::SUCCESS);
-        }
         Some(Task::Multiply(count)) => multiply(count),
         Some(Task::CombineTwo(count)) => combine(&[1, 2], count),
         Some(Task::CombineFour(count)) => combine(&[1, 2, 3, 4], count),
         Some(Task::Split(count)) => split_many(count),
         None => {
-            println!(rt; "words: products, or multiply, combine2, combine4 or split with a count")?;
+            println!(rt; "words: multiply, combine2, combine4 or split with a count")?;
             return Ok(ExitCode::FAILURE);
         }
     };

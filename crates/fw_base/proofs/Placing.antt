@@ -124,9 +124,9 @@ from_one : (n n2 m : ℕ) → IsTrue (within 1 n m) → IsTrue (within 1 n2 m) �
 from_one n n2 m fits fits2 e = omega (arith, leb-true 1 n (and_parts (nat_le 1 n) (nat_le n m) fits).0, leb-true 1 n2 (and_parts (nat_le 1 n2) (nat_le n2 m) fits2).0)
 
 -- a slot and a point are known by their row
-record Same (s t : Slot) (x y : ℕ) : Type 0 where
-  slot : s ≡ t
-  point : x ≡ y
+pub record Same (s t : Slot) (x y : ℕ) : Type 0 where
+  pub slot : s ≡ t
+  pub point : x ≡ y
 
 one_slot : (p : Params) (s t : Slot) (point point2 : ℕ) → IsTrue (slot_fits p s) → IsTrue (slot_fits p t) → point ≤ last_point p s → point2 ≤ last_point p t → (slot_name s).kind ≡ (slot_name t).kind → row_index p s point ≡ row_index p t point2 → Same s t point point2
 one_slot p (slots.Prepare v n i) (slots.Prepare v2 n2 i2) point point2 fits fits2 at at2 kinds e =
@@ -207,6 +207,26 @@ one_slot p (slots.Reply n) (slots.Reply n2) point point2 fits fits2 at at2 kinds
     let number : n ≡ n2 = from_one n n2 p.numbers fits fits2 row.0 in
     record { slot = cc; point = row.1 }
 
+pub same_slot : (p : Params) (s t : Slot) (x y : ℕ) → IsTrue (slot_fits p s) → IsTrue (slot_fits p t) → x ≤ last_point p s → y ≤ last_point p t → row_index p s x ≡ row_index p t y → Same s t x y
+same_slot p s t x y fits fits2 at at2 e =
+    let there = subst (Between p (slot_name t).kind) (sym e) (stands p t y fits2 at2) in
+    one_slot p s t x y fits fits2 at at2 (one_kind p (slot_name s).kind (slot_name t).kind (row_index p s x) (stands p s x fits at) there) e
+
+last_kind : (s : Slot) → (slot_name s).kind ≤ 6
+last_kind (slots.Prepare v n i) = omega arith
+last_kind (slots.Commit v n i) = omega arith
+last_kind (slots.Change v i) = omega arith
+last_kind (slots.NewView v i) = omega arith
+last_kind (slots.Request c s) = omega arith
+last_kind (slots.Reply n) = omega arith
+
+-- each slot at each of its points has one of the rows
+pub row_below : (p : Params) (s : Slot) (point : ℕ) → IsTrue (slot_fits p s) → point ≤ last_point p s → row_index p s point < keys p + p.numbers * (executors p + 1)
+row_below p s point fits at =
+    let kind = (slot_name s).kind in
+    let last = last_kind s in
+    omega (arith, (stands p s point fits at).before, later p (suc kind) (6 - kind) 7 (omega (arith, last)))
+
 -- a bit and a side are known by their place in a row
 bits : (row bit side row2 bit2 side2 : ℕ) → bit < 256 → side < 2 → bit2 < 256 → side2 < 2 → row * 512 + 2 * bit + side ≡ row2 * 512 + 2 * bit2 + side2 → (row ≡ row2) × (bit ≡ bit2) × (side ≡ side2)
 bits row bit side row2 bit2 side2 b s b2 s2 e = (omega arith, omega arith, omega arith)
@@ -215,13 +235,13 @@ abbrev made : Slot → ℕ → ℕ → ℕ → Place
 made slot bit side point = record { slot = slot; bit = bit; side = side; point = point }
 
 -- the parts of what a place needs
-record Fitting (p : Params) (place : Place) : Type 0 where
-  slot : IsTrue (slot_fits p place.slot)
-  bit : place.bit < 256
-  side : place.side < 2
-  point : place.point ≤ last_point p place.slot
+pub record Fitting (p : Params) (place : Place) : Type 0 where
+  pub slot : IsTrue (slot_fits p place.slot)
+  pub bit : place.bit < 256
+  pub side : place.side < 2
+  pub point : place.point ≤ last_point p place.slot
 
-fitting : (p : Params) (place : Place) → IsTrue (place_fits p place) → Fitting p place
+pub fitting : (p : Params) (place : Place) → IsTrue (place_fits p place) → Fitting p place
 fitting p place fits =
     let last = and_parts (slot_fits p place.slot && nat_lt place.bit 256 && nat_lt place.side 2) (within 0 place.point (last_point p place.slot)) fits in
     let third = and_parts (slot_fits p place.slot && nat_lt place.bit 256) (nat_lt place.side 2) last.0 in
@@ -238,10 +258,7 @@ one_place p a b fits fits2 e =
     let one = fitting p a fits in
     let other = fitting p b fits2 in
     let parts = bits (row_index p a.slot a.point) a.bit a.side (row_index p b.slot b.point) b.bit b.side one.bit one.side other.bit other.side e in
-    let here = stands p a.slot a.point one.slot one.point in
-    let there = subst (Between p (slot_name b.slot).kind) (sym parts.0) (stands p b.slot b.point other.slot other.point) in
-    let kinds = one_kind p (slot_name a.slot).kind (slot_name b.slot).kind (row_index p a.slot a.point) here there in
-    let same = one_slot p a.slot b.slot a.point b.point one.slot other.slot one.point other.point kinds parts.0 in
+    let same = same_slot p a.slot b.slot a.point b.point one.slot other.slot one.point other.point parts.0 in
     ap (λ s. made s a.bit a.side a.point) same.slot
     ∙ ap (λ x. made b.slot x a.side a.point) parts.1
     ∙ ap (λ x. made b.slot b.bit x a.point) parts.2

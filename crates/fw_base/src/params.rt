@@ -3,8 +3,8 @@
 ghost use Rattle.std.specs.Prelude.{◌≡◌, ◌≤◌, ◌+◌, ◌*◌, ◌↔◌, IsTrue, IsOk, IfOk, IfErr, None, Some};
 ghost use Rattle.fw_base.specs.Checks.{fault_of};
 ghost use Rattle.fw_base.specs.Seats.{seats};
-ghost use Rattle.fw_base.specs.Sizes.{accepted, agreements, executors, width, quorum};
-ghost use Rattle.fw_base.specs.declared.limits.TheConstants.{MOST_FAULTS};
+ghost use Rattle.fw_base.specs.Sizes.{accepted, agreements, executors, width, quorum, keys};
+ghost use Rattle.fw_base.specs.declared.limits.TheConstants.{MOST_FAULTS, MOST_NUMBERS, MOST_VIEWS};
 
 use crate::limits::{MOST_CLIENTS, MOST_FAULTS, MOST_KEYS, MOST_NUMBERS, MOST_STAMPS, MOST_VIEWS};
 
@@ -64,9 +64,7 @@ impl Params {
         if self.clients * self.stamps > self.numbers {
             return Err(ParamFault::Field(3));
         }
-        let agreements = agreement_nodes(self.f);
-        let votes = self.views * self.numbers * agreements;
-        let keys = 2 * votes + 2 * (self.views * agreements) + self.clients * self.stamps;
+        let keys = key_count(&self);
         if keys > MOST_KEYS {
             return Err(ParamFault::TooManyKeys(keys));
         }
@@ -112,6 +110,14 @@ impl Params {
         2 * self.f + 1
     }
 
+    /// How many keys of one-time signatures there are, without those of replies.
+    pub fn keys(&self) -> u32
+        requires { IsTrue (accepted self.now) }
+        ensures { result ≡ keys self.now }
+    {
+        key_count(self)
+    }
+
     /// How many seats there are.
     pub fn seats(&self) -> u32
         requires { IsTrue (accepted self.now) }
@@ -128,4 +134,17 @@ fn agreement_nodes(f: u32) -> u32
     ensures { result ≡ 3 * f + 1 }
 {
     3 * f + 1
+}
+
+/// How many keys of one-time signatures sizes within these limits have.
+fn key_count(params: &Params) -> u32
+    requires faults { params.now.f ≤ MOST_FAULTS }
+    requires numbers { params.now.numbers ≤ MOST_NUMBERS }
+    requires views { params.now.views ≤ MOST_VIEWS }
+    requires stamps { params.now.clients * params.now.stamps ≤ params.now.numbers }
+    ensures { result ≡ keys params.now }
+{
+    let agreements = agreement_nodes(params.f);
+    let votes = params.views * params.numbers * agreements;
+    2 * votes + 2 * (params.views * agreements) + params.clients * params.stamps
 }

@@ -109,8 +109,7 @@ fn row_of(params: &Params, slot: Slot, point: u32) -> u32
             2 * votes + 2 * changes + client * params.stamps + (stamp - 1)
         }
         Slot::Reply { number } => {
-            let keys = 2 * votes + 2 * changes + params.clients * params.stamps;
-            keys + (number - 1) * (params.executors() + 1) + point
+            params.keys() + (number - 1) * (params.executors() + 1) + point
         }
     }
 }

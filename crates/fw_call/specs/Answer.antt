@@ -16,7 +16,7 @@ use Rattle.fw_sched.specs.Faults.{IsFault}
 use Rattle.fw_sched.specs.Simple.{is_simple_plan}
 use Rattle.fw_deal.specs.Deals.{PlainDeal, IsDealtFile}
 use Rattle.fw_op.specs.declared.op.Op.{Op}
-use Rattle.fw_node.specs.declared.Message.{Message}
+use Rattle.typed_node.specs.declared.Message.{Message}
 use Rattle.fw_trace.specs.Trace.{Trace}
 use Rattle.fw_law_reply.specs.Laws.{AcceptsAnswers, LetsDownCertificates}
 use Rattle.fw_world.specs.Schedule.{IsRunOf}

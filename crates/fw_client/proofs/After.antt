@@ -1,22 +1,20 @@
--- One more input of a history.
-use Rattle.std.proofs.Common.{◌≡◌, ℕ, List, ◌∷◌, ap, ap₂, sym, ◌∙◌}
-use Rattle.fw_base.specs.declared.params.Params.{Params}
-use Rattle.fw_base.specs.declared.seat.Seat.{Seat}
+-- What a client keeps and sends after one more input of a history.
+use Rattle.std.proofs.Common.{◌≡◌, Bool, false, ◌∷◌, ap, sym, ◌∙◌}
+use Rattle.std.specs.Prelude.{Result, Ok, Err, OnOk, is_err}
 use Rattle.fw_op.specs.declared.op.Op.{Op}
 use Rattle.fw_op.specs.declared.reply.Reply.{Reply}
 use Rattle.fw_trace.specs.Client as clients
-use Rattle.fw_trace.specs.Role.{kept}
-use Rattle.fw_node.specs.Given.{Taken}
-use Rattle.fw_rules.specs.Speeches.{client_speech, client_role}
-use Rattle.fw_client.specs.Standing.{Asker, StandsFor, speech}
+use Rattle.fw_trace.specs.Role.{kept, sends}
+use Rattle.fw_node.specs.Histories.{Taken, History}
+use Rattle.fw_client.specs.Kept.{Speech, after, sent_of}
 
--- a node that keeps what its role keeps after an input stands for the history with that input
-pub stands-after : (a b : Asker) (p : Params) (s : Seat) (h : List Taken) (i : Taken) → b.client ≡ a.client → b.stamps ≡ a.stamps → b.keeps ≡ (clients.client_next (speech a) a.keeps i).0 → StandsFor a p s h → StandsFor b p s (i ∷ h)
-stands-after a b p s h i client stamps keeps stands = record {
-  seat = rw client stands.seat;
-  sizes = rw stamps stands.sizes;
-  keeping =
-      keeps
-      ∙ ap (λ (k : clients.Client Op Reply). (clients.client_next (client_speech a.stamps a.client) k i).0) stands.keeping
-      ∙ sym (ap₂ (λ (m : ℕ) (c : ℕ). kept (client_role m c) (i ∷ h)) stamps client);
-}
+pub stands_more : (sp : Speech) (old new : clients.Client Op Reply) (asks : Bool) (h : History) (i : Taken) → clients.client_next sp old i ≡ after asks sp new → old ≡ kept (clients.client_role sp) h → new ≡ kept (clients.client_role sp) (i ∷ h)
+stands_more sp old new asks h i step stands = sym (ap (λ r. r.0) step) ∙ ap (λ k. (clients.client_next sp k i).0) stands
+
+pub sent_more : (sp : Speech) (old new : clients.Client Op Reply) (asks : Bool) (h : History) (i : Taken) → clients.client_next sp old i ≡ after asks sp new → old ≡ kept (clients.client_role sp) h → sent_of asks sp new ≡ sends (clients.client_role sp) (i ∷ h)
+sent_more sp old new asks h i step stands = sym (ap (λ r. r.1) step) ∙ ap (λ k. (clients.client_next sp k i).1) stands
+
+-- what holds with Ok, where there is no error
+pub ok_of : {T E : Type 0} (r : Result T E) (P : Type 0) → is_err r ≡ false → OnOk r P → P
+ok_of (Ok x) P fine p = p
+ok_of (Err y) P fine p = absurd (let no : ⊥ = cc in no)

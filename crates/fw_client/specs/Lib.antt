@@ -1,2 +1,4 @@
 -- The files of definitions.
+pub mod Kept
 pub mod Standing
+pub mod Hearing

@@ -1,15 +1,13 @@
 -- The rows of a directory, one behind the other.
-use Rattle.std.proofs.Common.{◌≡◌, ℕ, ◌+◌, ◌-◌, ◌*◌, ◌/◌, ◌%◌, ◌<◌, ◌≤◌, List, ◌++◌, length, take, drop, refl, sym, ap, ◌∙◌, arith, IsTrue, ◌&&◌, nat_lt, nat_le, inl, inr, length-append, length-drop, take_all}
+use Rattle.std.proofs.Common.{◌≡◌, ℕ, ◌+◌, ◌-◌, ◌*◌, ◌/◌, ◌%◌, ◌<◌, ◌≤◌, List, ◌++◌, length, take, drop, refl, sym, ap, ◌∙◌, arith, IsTrue, inl, inr, length-append, length-drop, take_all}
 use Rattle.std.proofs.lemmas.List.{drop-drop, drop-take, take-take, drop-append-le, take-append-le, drop_at}
-use Rattle.std.proofs.lemmas.Bool.{ltb-true, leb-true, and_parts, and_from, le-leb, cases_lt}
+use Rattle.std.proofs.lemmas.Bool.{cases_lt}
 use Rattle.sha2.proofs.Facts256.{length-sha256}
-use Rattle.fw_list.specs.Numbers.{within}
-use Rattle.fw_base.specs.declared.params.Params.{Params}
 use Rattle.fw_base.specs.declared.slot.Slot.{Slot}
 use Rattle.fw_base.specs.declared.slot.Place.{Place}
 use Rattle.fw_base.specs.Places.{slot_fits, last_point, place_fits, row_index, place_index}
 use Rattle.fw_base.specs.Sizes.{accepted}
-use Rattle.fw_base.proofs.Placing.{one_place}
+use Rattle.fw_base.proofs.Placing.{same_slot, row_below, fitting}
 use Rattle.fw_text.specs.Bits.{value_at}
 use Rattle.fw_text.specs.Texts.{Text, hash, Value, text_bytes}
 use Rattle.fw_lamport.specs.Signature.{place_at}
@@ -19,7 +17,6 @@ use Rattle.fw_secret.proofs.Secrets.{dealt_at}
 use Rattle.fw_directory.specs.Directories.{rows}
 use Rattle.fw_deal.specs.Deals.{IsDirectoryOf}
 use Rattle.fw_deal.specs.Rows.{row_of, HasRows}
-use Rattle.fw_directory.proofs.Bounds.{row_below}
 
 pub length-hash : (text : Text) → length (hash text) ≡ 32
 unfolding hash
@@ -59,23 +56,6 @@ row_kept xs ys row count long below =
 row_added : (xs ys : List ℕ) (count : ℕ) → length xs ≡ 16384 * count → length ys ≡ 16384 → take 16384 (drop (16384 * count) (xs ++ ys)) ≡ ys
 row_added xs ys count long whole = ap (take 16384) (drop_at xs ys (16384 * count) long) ∙ take_all 16384 ys (omega arith)
 
--- the first place of a row
-abbrev first_of : Slot → ℕ → Place
-first_of slot point = record { slot = slot; bit = 0; side = 0; point = point }
-
-first_fits : (p : Params) (slot : Slot) (point : ℕ) → IsTrue (slot_fits p slot) → point ≤ last_point p slot → IsTrue (place_fits p (first_of slot point))
-first_fits p slot point fits within = search (arith, and_from, le-leb) depth 9
-
-record Same (s t : Slot) (x y : ℕ) : Type 0 where
-  slot : s ≡ t
-  point : x ≡ y
-
--- a row is of one slot and point
-one_row : (p : Params) (s t : Slot) (x y : ℕ) → IsTrue (slot_fits p s) → IsTrue (slot_fits p t) → x ≤ last_point p s → y ≤ last_point p t → row_index p s x ≡ row_index p t y → Same s t x y
-one_row p s t x y fits fits2 at at2 e =
-    let same : first_of s x ≡ first_of t y = one_place p (first_of s x) (first_of t y) (first_fits p s x fits at) (first_fits p t y fits2 at2) (ap (λ (r : ℕ). r * 512 + 2 * 0 + 0) e) in
-    record { slot = ap (λ (q : Place). q.slot) same; point = ap (λ (q : Place). q.point) same }
-
 -- the digests with one row more
 pub one_row_more : (o : Origin) (count : ℕ) (digests row : List ℕ) (slot : Slot) (point : ℕ) → HasRows o count digests → IsTrue (slot_fits o.params slot) → point ≤ last_point o.params slot → row_index o.params slot point ≡ count → row ≡ row_of slot point (slot_values o slot point) → HasRows o (count + 1) (digests ++ row)
 one_row_more o count digests row slot point before fits at here is =
@@ -86,30 +66,11 @@ one_row_more o count digests row slot point before fits at here is =
         | inl less ↦ row_kept digests row (row_index o.params s x) count before.whole less ∙ before.each s x fits2 at2 less
         | inr last ↦
             let place : row_index o.params s x ≡ count = omega arith in
-            let same = one_row o.params slot s point x fits fits2 at at2 (here ∙ sym place) in
+            let same = same_slot o.params slot s point x fits fits2 at at2 (here ∙ sym place) in
             let moved : row_of slot point (slot_values o slot point) ≡ row_of s x (slot_values o s x) =
             ap (λ (t : Slot). row_of t point (slot_values o t point)) same.slot ∙ ap (λ (y : ℕ). row_of s y (slot_values o s y)) same.point in
             ap (λ (r : ℕ). take 16384 (drop (16384 * r) (digests ++ row))) place ∙ row_added digests row count before.whole long ∙ is ∙ moved
       ];
-    }
-
--- the parts of what a place needs
-record Fitting (p : Params) (place : Place) : Type 0 where
-  slot : IsTrue (slot_fits p place.slot)
-  bit : place.bit < 256
-  side : place.side < 2
-  point : place.point ≤ last_point p place.slot
-
-fitting : (p : Params) (place : Place) → IsTrue (place_fits p place) → Fitting p place
-fitting p place fits =
-    let last = and_parts (slot_fits p place.slot && nat_lt place.bit 256 && nat_lt place.side 2) (within 0 place.point (last_point p place.slot)) fits in
-    let third = and_parts (slot_fits p place.slot && nat_lt place.bit 256) (nat_lt place.side 2) last.0 in
-    let second = and_parts (slot_fits p place.slot) (nat_lt place.bit 256) third.0 in
-    record {
-      slot = second.0;
-      bit = ltb-true place.bit 256 second.1;
-      side = ltb-true place.side 2 third.1;
-      point = leb-true place.point (last_point p place.slot) (and_parts (nat_le 0 place.point) (nat_le place.point (last_point p place.slot)) last.1).1;
     }
 
 -- a place with another bit and side

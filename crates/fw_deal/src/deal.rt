@@ -11,10 +11,10 @@ ghost use Rattle.fw_hand.specs.Hands.{IsHandIn, is_own, point_of, values_in};
 ghost use Rattle.fw_deal.specs.Deals.{IsDirectoryOf, IsDealtFile, hand_of};
 
 use crate::digests::digests_of;
-use crate::hands::{all_keys, copy_starts, held_of, keys_of, point_of, starts_of};
+use crate::hands::{all_keys, copy_starts, held_of, keys_of, starts_of};
 use fw_base::{Params, Place, Seat};
 use fw_directory::Directory;
-use fw_hand::{Hand, HeldKey, clients_of, slots_of, write_hand};
+use fw_hand::{Hand, HeldKey, clients_of, point_of, slots_of, write_hand};
 use fw_list::{Bytes, Items, Memory};
 use fw_op::{Start, Starts};
 use fw_seal::BodyKey;

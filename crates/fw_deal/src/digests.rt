@@ -9,8 +9,9 @@ ghost use Rattle.fw_lamport.specs.Signature.{place_at};
 ghost use Rattle.fw_deal.specs.Deals.{IsDirectoryOf};
 ghost use Rattle.fw_deal.specs.Rows.{row_of};
 
-use crate::rows::{rows, slot_at};
+use crate::rows::slot_at;
 use fw_base::{Params, Place, Slot};
+use fw_directory::row_count;
 use fw_lamport::value_digest;
 use fw_list::{Bytes, Memory, ROW_LEN};
 use fw_secret::slot_values;
@@ -50,7 +51,7 @@ pub(crate) fn digests_of(alloc: Global, params: &Params, seed: &[u8; 32]) -> Res
     let mut digests = Bytes::new(alloc);
     let mut values = [0; ROW_LEN];
     let mut row = [0; ROW_LEN];
-    for k in 0..rows(params) {
+    for k in 0..row_count(params) {
         let (slot, point) = slot_at(params, k);
         slot_values(params, seed, slot, point, &mut values);
         digest_row(slot, point, &values, &mut row);

@@ -3,8 +3,6 @@
 ghost use Rattle.std.specs.Prelude.{◌≡◌, ◌<◌, All, map, IfOk, IsTrue};
 ghost use Rattle.fw_list.specs.Lists.{numbers_from};
 ghost use Rattle.fw_base.specs.Sizes.{accepted};
-ghost use Rattle.fw_base.specs.Seats.{fits};
-ghost use Rattle.fw_hand.specs.Hands.{point_of};
 ghost use Rattle.fw_deal.specs.Deals.{key_of, starts_of, HasValues, held_at};
 
 use fw_base::{Params, Seat, Slot};
@@ -91,17 +89,5 @@ pub(crate) fn starts_of(alloc: Global, seat: Seat, starts: &[Start]) -> Result<S
     match seat {
         Seat::Exec(_) => copy_starts(alloc, starts),
         _ => Ok(Starts::new(alloc)),
-    }
-}
-
-/// The point at which a seat has the values of its slots.
-pub(crate) fn point_of(params: &Params, seat: Seat) -> u32
-    requires sizes { IsTrue (accepted params.now) }
-    requires fits { IsTrue (fits params.now seat) }
-    ensures { result ≡ point_of seat }
-{
-    match seat {
-        Seat::Exec(j) => j + 1,
-        _ => 0,
     }
 }

@@ -7,17 +7,6 @@ ghost use Rattle.fw_directory.specs.Directories.{rows};
 
 use fw_base::{Params, Slot};
 
-/// How many rows there are.
-pub(crate) fn rows(params: &Params) -> u32
-    requires { IsTrue (accepted params.now) }
-    ensures { result ≡ rows params.now }
-{
-    let agreements = params.agreements();
-    let votes = params.views * params.numbers * agreements;
-    let keys = 2 * votes + 2 * (params.views * agreements) + params.clients * params.stamps;
-    keys + params.numbers * (params.executors() + 1)
-}
-
 /// The line and the column of a place in lines of a width.
 fn in_lines(place: u32, lines: u32, width: u32) -> (u32, u32)
     requires { place < lines * width }

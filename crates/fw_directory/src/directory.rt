@@ -4,11 +4,19 @@ ghost use Rattle.std.specs.Prelude.{◌≡◌, ◌≤◌, length, IsTrue};
 ghost use Rattle.fw_base.specs.Sizes.{accepted};
 ghost use Rattle.fw_base.specs.Places.{slot_fits, place_fits, last_point};
 ghost use Rattle.fw_list.specs.declared.limits.TheConstants.{ROW_LEN};
-ghost use Rattle.fw_directory.specs.Directories.{digest_at, row_at, IsDirectory};
+ghost use Rattle.fw_directory.specs.Directories.{rows, digest_at, row_at, IsDirectory};
 
 use fw_base::{Params, Place, Slot, place_index};
 use fw_list::{Bytes, ROW_LEN};
 use std::marker::Model;
+
+/// How many rows of 512 places a deployment has.
+pub fn row_count(params: &Params) -> u32
+    requires { IsTrue (accepted params.now) }
+    ensures { result ≡ rows params.now }
+{
+    params.keys() + params.numbers * (params.executors() + 1)
+}
 
 /// The digests of all values that are dealt in a deployment.
 #[derive(Debug, Drop)]

@@ -3,4 +3,4 @@
 
 mod directory;
 
-pub use directory::Directory;
+pub use directory::{Directory, row_count};

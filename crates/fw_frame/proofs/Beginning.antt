@@ -3,18 +3,18 @@ use Rattle.std.proofs.Common.{◌≡◌, ℕ, ◌+◌, Bool, ◌&&◌, nat_le, s
 use Rattle.std.specs.Prelude.{OnErr}
 use Rattle.std.specs.List.{flat_map}
 use Rattle.std.proofs.lemmas.Bool.{and_parts}
-use Rattle.fw_frame.specs.Reading.{Finds}
+use Rattle.fw_wire.specs.Reading.{FindsWhere}
 use Rattle.fw_frame.specs.Needing.{Begins, Anything, StartsItem}
 use Rattle.fw_frame.proofs.Lists.{SoFar, rises}
 
 -- a value was found, and what is left has the rest
 pub begins : {A : Type 0} {text : A → List ℕ} {fits : A → Bool} {more : A → List ℕ → Type 0} {old left : List ℕ} {x : A}
-    → Finds text fits old (Some x) left → more x left → Begins text fits more old
+    → FindsWhere text fits old (Some x) left → more x left → Begins text fits more old
 begins {left = left} {x = x} p m = record { value = x; rest = left; is = p.read.0; fitting = p.read.1; behind = m }
 
 -- the same with a wider range
 pub begins_as : {A : Type 0} {text : A → List ℕ} {f g : A → Bool} {more : A → List ℕ → Type 0} {old left : List ℕ} {x : A}
-    → (IsTrue (f x) → IsTrue (g x)) → Finds text f old (Some x) left → more x left → Begins text g more old
+    → (IsTrue (f x) → IsTrue (g x)) → FindsWhere text f old (Some x) left → more x left → Begins text g more old
 begins_as {left = left} {x = x} to p m = record { value = x; rest = left; is = p.read.0; fitting = to p.read.1; behind = m }
 
 pub second : (a b : Bool) → IsTrue (a && b) → IsTrue b
@@ -41,7 +41,7 @@ front {text = text} {key = key} {fits = fits} {first = first} {bytes = bytes} {i
 
 -- an item was found behind it
 pub front_found : {A : Type 0} {text : A → List ℕ} {key : A → ℕ} {fits : A → Bool} {first count : ℕ} {bytes : List ℕ} {least : ℕ} {items : List A} {left next : List ℕ} {x : A} (inside : List ℕ → Type 0)
-    → SoFar text key fits first count bytes least items left → Finds text (λ y. nat_le least (key y) && fits y) left (Some x) next → StartsItem text fits inside bytes
+    → SoFar text key fits first count bytes least items left → FindsWhere text (λ y. nat_le least (key y) && fits y) left (Some x) next → StartsItem text fits inside bytes
 front_found {text = text} {key = key} {fits = fits} {least = least} {next = next} {x = x} inside s p =
     front inside s (inl (begins_as (second (nat_le least (key x)) (fits x)) p tt))
 

@@ -4,15 +4,16 @@ use Rattle.std.specs.Prelude.{IfOk, IfSome}
 use Rattle.std.specs.List.{flat_map, list_all}
 use Rattle.std.proofs.lemmas.Bool.{and_parts, and_from, leb-true, le-leb, lt-ltb, eqb-true, eq-eqb}
 use Rattle.fw_list.specs.declared.limits.TheConstants.{SIGNATURE_LEN}
-use Rattle.fw_list.specs.Numbers.{u32}
-use Rattle.fw_list.specs.Numbers.{within}
+use Rattle.fw_list.specs.Numbers.{u32, within, ascending}
 use Rattle.fw_base.specs.Sizes.{agreements, quorum}
 use Rattle.fw_base.specs.declared.params.Params.{Params}
 use Rattle.fw_frame.specs.Frames.{PlainSigner, PlainProof, PlainChange, PlainEntry}
-use Rattle.fw_frame.specs.Ranges.{ascending, has_length, number_fits, entry_fits, signers_fit, proof_fits, proofs_fit, change_fits, changes_fit, view_fits, values_fit}
-use Rattle.fw_frame.specs.Reading.{Finds, list_fits}
+use Rattle.fw_frame.specs.Ranges.{has_length, number_fits, entry_fits, signers_fit, proof_fits, proofs_fit, change_fits, changes_fit, view_fits, values_fit}
+use Rattle.fw_wire.specs.Reading.{FindsWhere}
+use Rattle.fw_frame.specs.Reading.{list_fits}
 use Rattle.fw_frame.specs.Spelling.{entry_bytes, signers_bytes, proof_bytes, proofs_bytes, change_bytes, changes_bytes}
-use Rattle.fw_frame.proofs.Reading.{then_text, then_fits, after_fits, Same, as_fits}
+use Rattle.fw_wire.proofs.Reading.{as_fits}
+use Rattle.fw_wire.proofs.Fields.{then_text, then_fits, after_fits, SameWhere}
 
 -- the parts of a longer conjunction
 pub three : (a b c : Bool) → IsTrue (a && b && c) → IsTrue a × IsTrue b × IsTrue c
@@ -52,8 +53,8 @@ counted_read t key fits f count old mid new (Some xs) e w h =
 
 -- a list behind its count
 pub counted : {A : Type 0} (t : A → List ℕ) (key : A → ℕ) (fits : A → Bool) (f : ℕ → Bool) {count : ℕ} {old mid new : List ℕ} {found : Option (List A)}
-    → Finds u32 f old (Some count) mid → Finds (flat_map t) (list_fits key fits count) mid found new
-    → Finds (λ xs. u32 (length xs) ++ flat_map t xs) (λ xs. f (length xs) && list_all fits xs && ascending (map key xs)) old found new
+    → FindsWhere u32 f old (Some count) mid → FindsWhere (flat_map t) (list_fits key fits count) mid found new
+    → FindsWhere (λ xs. u32 (length xs) ++ flat_map t xs) (λ xs. f (length xs) && list_all fits xs && ascending (map key xs)) old found new
 counted t key fits f {count = count} {old = old} {mid = mid} {new = new} {found = found} p q = record {
   read = counted_read t key fits f count old mid new found p.read.0 p.read.1 q.read;
   each = λ xs rest h e.
@@ -87,9 +88,9 @@ to_one n m b c h =
     and_from _ _ (and_from _ _ (one_within n m parts.0) parts.1) parts.2
 
 pub proofs_counted : {B E : Type 0} (h : B → List PlainProof) (r : Result (Option B) E) (p : Params) (view count : ℕ) (old mid new : List ℕ)
-    → Finds u32 (λ n. nat_le n p.numbers) old (Some count) mid
-    → IfOk r (λ found. Finds (flat_map proof_bytes) (list_fits (λ q. q.number) (proof_fits p view) count) mid (option_map h found) new)
-    → IfOk r (λ found. Finds proofs_bytes (proofs_fit p view) old (option_map h found) new)
+    → FindsWhere u32 (λ n. nat_le n p.numbers) old (Some count) mid
+    → IfOk r (λ found. FindsWhere (flat_map proof_bytes) (list_fits (λ q. q.number) (proof_fits p view) count) mid (option_map h found) new)
+    → IfOk r (λ found. FindsWhere proofs_bytes (proofs_fit p view) old (option_map h found) new)
 proofs_counted h (Err e) p view count old mid new a b = tt
 proofs_counted h (Ok found) p view count old mid new a b = counted proof_bytes (λ q. q.number) (proof_fits p view) (λ n. nat_le n p.numbers) a b
 
@@ -97,14 +98,14 @@ abbrev pub to_fits : Params → ℕ → PlainChange → Bool
 to_fits p view c = nat_eq c.view view && change_fits p c
 
 pub changes_counted : {B E : Type 0} (h : B → List PlainChange) (r : Result (Option B) E) (p : Params) (view count q : ℕ) (old mid new : List ℕ) → q ≡ quorum p
-    → Finds u32 (λ n. within q n q) old (Some count) mid
-    → IfOk r (λ found. Finds (flat_map change_bytes) (list_fits (λ c. c.agree) (to_fits p view) count) mid (option_map h found) new)
-    → IfOk r (λ found. Finds changes_bytes (changes_fit p view) old (option_map h found) new)
+    → FindsWhere u32 (λ n. within q n q) old (Some count) mid
+    → IfOk r (λ found. FindsWhere (flat_map change_bytes) (list_fits (λ c. c.agree) (to_fits p view) count) mid (option_map h found) new)
+    → IfOk r (λ found. FindsWhere changes_bytes (changes_fit p view) old (option_map h found) new)
 changes_counted h (Err e) p view count q old mid new is a b = tt
 changes_counted h (Ok found) p view count q old mid new is a b =
     as_fits (λ cs f. from_one (quorum p) (length cs) (list_all (to_fits p view) cs) (ascending (map (λ c. c.agree) cs)) f)
     (λ cs f. to_one (quorum p) (length cs) (list_all (to_fits p view) cs) (ascending (map (λ c. c.agree) cs)) f)
-    (counted change_bytes (λ c. c.agree) (to_fits p view) (λ n. within (quorum p) n (quorum p)) (subst (λ (k : ℕ). Finds u32 (λ n. within k n k) old (Some count) mid) is a) b)
+    (counted change_bytes (λ c. c.agree) (to_fits p view) (λ n. within (quorum p) n (quorum p)) (subst (λ (k : ℕ). FindsWhere u32 (λ n. within k n k) old (Some count) mid) is a) b)
 
 -- ---- a proof
 
@@ -112,12 +113,12 @@ abbrev pub proof_of : ℕ × (ℕ × (PlainEntry × List PlainSigner)) → Plain
 proof_of x = record { view = x.0; number = x.1.0; entry = x.1.1.0; signers = x.1.1.1 }
 
 pub proof_same : (p : Params) (view least : ℕ)
-    → Same (then_text u32 (then_text u32 (then_text entry_bytes signers_bytes)))
+    → SameWhere (then_text u32 (then_text u32 (then_text entry_bytes signers_bytes)))
     (then_fits (λ n. nat_lt n view) (then_fits (λ n. nat_le least n && number_fits p n) (then_fits (entry_fits p) (signers_fit p))))
     proof_bytes (λ q. nat_le least q.number && proof_fits p view q) proof_of
 proof_same p view least = record {
   from = λ q. (q.view, (q.number, (q.entry, q.signers)));
-  texts = λ x. simp append_assoc;
+  texts = λ x fits. simp append_assoc;
   fits_to = λ x h.
       let a = and_parts (nat_lt x.0 view) _ h in
       let b = and_parts (nat_le least x.1.0 && number_fits p x.1.0) _ a.1 in
@@ -140,11 +141,11 @@ abbrev pub change_rest : Params → ℕ → ℕ → ℕ × (List PlainProof × L
 change_rest p least view x = then_fits (λ n. nat_le least n && nat_lt n (agreements p)) (then_fits (proofs_fit p view) (has_length SIGNATURE_LEN)) x
 
 pub change_same : (p : Params) (low high least : ℕ) → 0 < low → high < p.views
-    → Same (then_text u32 (then_text u32 (then_text proofs_bytes (λ bytes. bytes)))) (after_fits (λ n. within low n high) (change_rest p least))
+    → SameWhere (then_text u32 (then_text u32 (then_text proofs_bytes (λ bytes. bytes)))) (after_fits (λ n. within low n high) (change_rest p least))
     change_bytes (λ c. nat_le least c.agree && (within low c.view high && change_fits p c)) change_of
 change_same p low high least pos below = record {
   from = λ c. (c.view, (c.agree, (c.proofs, c.sig)));
-  texts = λ x. simp append_assoc;
+  texts = λ x fits. simp append_assoc;
   fits_to = λ x h.
       let a = and_parts (within low x.0 high) _ h in
       let w = and_parts (nat_le low x.0) (nat_le x.0 high) a.0 in
@@ -177,7 +178,7 @@ from_view p view least c h =
     and_from _ _ a.0 (and_from _ _ (one_within view c.view b.0) b.1)
 
 pub change_to_view : {B E : Type 0} (h : B → PlainChange) (r : Result (Option B) E) (p : Params) (view least : ℕ) (old new : List ℕ)
-    → IfOk r (λ found. Finds change_bytes (λ c. nat_le least c.agree && (within view c.view view && change_fits p c)) old (option_map h found) new)
-    → IfOk r (λ found. Finds change_bytes (λ c. nat_le least c.agree && (nat_eq c.view view && change_fits p c)) old (option_map h found) new)
+    → IfOk r (λ found. FindsWhere change_bytes (λ c. nat_le least c.agree && (within view c.view view && change_fits p c)) old (option_map h found) new)
+    → IfOk r (λ found. FindsWhere change_bytes (λ c. nat_le least c.agree && (nat_eq c.view view && change_fits p c)) old (option_map h found) new)
 change_to_view h (Err e) p view least old new a = tt
 change_to_view h (Ok found) p view least old new a = as_fits (to_view p view least) (from_view p view least) a

@@ -6,26 +6,26 @@ use Rattle.std.specs.Prelude.{IfOk, IfSome}
 use Rattle.std.specs.List.{list_all}
 use Rattle.std.proofs.lemmas.Bool.{ltb-true, and_parts, and_from, or_cases, or_left, or_right, cases_Bool, both_ways, eqb-true, eq-eqb, leb-false, lt-ltb, le-leb}
 use Rattle.fw_list.specs.declared.limits.TheConstants.{BODY_LEN, SIGNATURE_LEN}
-use Rattle.fw_list.specs.Numbers.{u32}
-use Rattle.fw_list.specs.Numbers.{within}
+use Rattle.fw_list.specs.Numbers.{u32, within}
 use Rattle.fw_base.specs.Sizes.{agreements, executors}
 use Rattle.fw_base.specs.declared.params.Params.{Params}
 use Rattle.fw_frame.specs.Frames.{PlainEntry, PlainSigner, PlainChange, PlainFrame, Request, Propose, Vote, Change, NewView, Agreed, Share, Reply, Want}
 use Rattle.fw_frame.specs.Ranges.{has_length, asker_fits, body_fits, values_fit, proofs_fit, change_fits, entry_fits, signers_fit, changes_fit, view_fits, frame_fits, IsFrame}
-use Rattle.fw_frame.specs.Reading.{Finds, kind_of, fields_bytes, kind_fits, answer_bytes, answered_fits}
+use Rattle.fw_wire.specs.Reading.{FindsWhere}
+use Rattle.fw_frame.specs.Reading.{kind_of, fields_bytes, kind_fits, answer_bytes, answered_fits}
 use Rattle.fw_frame.specs.Spelling.{entry_bytes, signers_bytes, change_bytes, changes_bytes, frame_bytes}
 use Rattle.fw_frame.proofs.Fields.{three, five}
-use Rattle.fw_frame.proofs.Reading.{then_text, then_fits, after_fits, Same}
+use Rattle.fw_wire.proofs.Fields.{then_text, then_fits, after_fits, SameWhere}
 
 -- a kind's fields, from a way back
 same_by : {A : Type 0} {t : A → List ℕ} {f : A → Bool} (p : Params) (k : ℕ) (to : A → PlainFrame) (from : PlainFrame → A)
     → ((x : A) → fields_bytes (to x) ≡ t x) → ((x : A) → kind_fits p k (to x) ≡ f x) → ((y : PlainFrame) → kind_of y ≡ k → to (from y) ≡ y)
-    → Same t f fields_bytes (kind_fits p k) to
+    → SameWhere t f fields_bytes (kind_fits p k) to
 same_by p k to from texts fits back =
     let again : (y : PlainFrame) → IsTrue (kind_fits p k y) → to (from y) ≡ y = λ y h. back y (eqb-true (kind_of y) k (and_parts (nat_eq (kind_of y) k) (frame_fits p y) h).0) in
     record {
       from = from;
-      texts = texts;
+      texts = λ x fits. texts x;
       fits_to = λ x h. fits x ∙ h;
       fits_from = λ y h. sym (fits (from y)) ∙ (ap (kind_fits p k) (again y h) ∙ h);
       back = again;
@@ -43,7 +43,7 @@ propose_from y = (0, (0, (None, [])))
 propose_back : (y : PlainFrame) → kind_of y ≡ 2 → propose_of (propose_from y) ≡ y
 propose_back y e = grind arith
 
-pub propose_same : (p : Params) → Same (then_text u32 (then_text u32 (then_text entry_bytes (λ bytes. bytes))))
+pub propose_same : (p : Params) → SameWhere (then_text u32 (then_text u32 (then_text entry_bytes (λ bytes. bytes))))
     (then_fits (λ n. nat_lt n p.views) (then_fits (λ n. within 1 n p.numbers) (then_fits (entry_fits p) (has_length SIGNATURE_LEN)))) fields_bytes (kind_fits p 2) propose_of
 propose_same p = same_by p 2 propose_of propose_from (λ x. simp append_assoc) (λ x. simp and_assoc) propose_back
 
@@ -60,7 +60,7 @@ vote_back : (y : PlainFrame) → kind_of y ≡ 3 → vote_of (vote_from y) ≡ y
 vote_back y e = grind arith
 
 pub vote_same : (p : Params)
-    → Same (then_text u32 (then_text u32 (then_text u32 (then_text u32 (then_text (λ bytes. bytes) (λ bytes. bytes))))))
+    → SameWhere (then_text u32 (then_text u32 (then_text u32 (then_text u32 (then_text (λ bytes. bytes) (λ bytes. bytes))))))
     (then_fits (λ n. nat_le n 1) (then_fits (λ n. nat_lt n p.views) (then_fits (λ n. within 1 n p.numbers)
     (then_fits (λ n. nat_lt n (agreements p)) (then_fits (has_length 32) (has_length SIGNATURE_LEN)))))) fields_bytes (kind_fits p 3) vote_of
 vote_same p = same_by p 3 vote_of vote_from (λ x. simp append_assoc) (λ x. simp and_assoc) vote_back
@@ -81,7 +81,7 @@ abbrev pub new_view_rest : Params → ℕ → List PlainChange × List ℕ → B
 new_view_rest p view x = then_fits (changes_fit p view) (has_length SIGNATURE_LEN) x
 
 pub new_view_same : (p : Params)
-    → Same (then_text u32 (then_text changes_bytes (λ bytes. bytes))) (after_fits (λ n. nat_lt 0 n && view_fits p n) (new_view_rest p)) fields_bytes (kind_fits p 5) new_view_of
+    → SameWhere (then_text u32 (then_text changes_bytes (λ bytes. bytes))) (after_fits (λ n. nat_lt 0 n && view_fits p n) (new_view_rest p)) fields_bytes (kind_fits p 5) new_view_of
 new_view_same p = same_by p 5 new_view_of new_view_from (λ x. simp append_assoc) (λ x. simp and_assoc) new_view_back
 
 -- ---- agreed entries
@@ -96,7 +96,7 @@ agreed_from y = (0, (0, (None, [])))
 agreed_back : (y : PlainFrame) → kind_of y ≡ 6 → agreed_of (agreed_from y) ≡ y
 agreed_back y e = grind arith
 
-pub agreed_same : (p : Params) → Same (then_text u32 (then_text u32 (then_text entry_bytes signers_bytes)))
+pub agreed_same : (p : Params) → SameWhere (then_text u32 (then_text u32 (then_text entry_bytes signers_bytes)))
     (then_fits (λ n. nat_lt n p.views) (then_fits (λ n. within 1 n p.numbers) (then_fits (entry_fits p) (signers_fit p)))) fields_bytes (kind_fits p 6) agreed_of
 agreed_same p = same_by p 6 agreed_of agreed_from (λ x. simp append_assoc) (λ x. simp and_assoc) agreed_back
 
@@ -149,7 +149,7 @@ share_from y = (0, (0, ((0, (0, [])), [])))
 share_back : (y : PlainFrame) → kind_of y ≡ 7 → share_of (share_from y) ≡ y
 share_back y e = grind arith
 
-pub share_same : (p : Params) → Same (then_text u32 (then_text u32 (then_text answer_bytes (λ bytes. bytes))))
+pub share_same : (p : Params) → SameWhere (then_text u32 (then_text u32 (then_text answer_bytes (λ bytes. bytes))))
     (then_fits (λ n. within 1 n p.numbers) (then_fits (λ n. nat_lt n (executors p)) (then_fits (answered_fits p) (has_length SIGNATURE_LEN)))) fields_bytes (kind_fits p 7) share_of
 share_same p = same_by p 7 share_of share_from (λ x. simp append_assoc) (λ x. simp and_assoc) share_back
 
@@ -165,7 +165,7 @@ reply_from y = (0, ((0, (0, [])), []))
 reply_back : (y : PlainFrame) → kind_of y ≡ 8 → reply_of (reply_from y) ≡ y
 reply_back y e = grind arith
 
-pub reply_same : (p : Params) → Same (then_text u32 (then_text answer_bytes (λ bytes. bytes)))
+pub reply_same : (p : Params) → SameWhere (then_text u32 (then_text answer_bytes (λ bytes. bytes)))
     (then_fits (λ n. within 1 n p.numbers) (then_fits (answered_fits p) (has_length SIGNATURE_LEN))) fields_bytes (kind_fits p 8) reply_of
 reply_same p = same_by p 8 reply_of reply_from (λ x. simp append_assoc) (λ x. simp and_assoc) reply_back
 
@@ -188,12 +188,12 @@ is_any_change p c h =
     let high = ltb-true c.view p.views f.1 in
     and_from _ _ (le-leb 0 c.agree (omega arith)) (and_from _ _ (and_from _ _ (le-leb 1 c.view (omega arith)) (le-leb c.view (p.views - 1) (omega arith))) h)
 
-pub change_frame_same : (p : Params) → Same change_bytes (any_change p) fields_bytes (kind_fits p 4) (λ c. Change c)
+pub change_frame_same : (p : Params) → SameWhere change_bytes (any_change p) fields_bytes (kind_fits p 4) (λ c. Change c)
 change_frame_same p =
     let again : (y : PlainFrame) → IsTrue (kind_fits p 4 y) → Change (change_from y) ≡ y = λ y h. change_back y (eqb-true (kind_of y) 4 (and_parts (nat_eq (kind_of y) 4) (frame_fits p y) h).0) in
     record {
       from = change_from;
-      texts = λ x. refl;
+      texts = λ x fits. refl;
       fits_to = λ x h. (and_parts (within 1 x.view (p.views - 1)) (change_fits p x) (and_parts (nat_le 0 x.agree) _ h).1).1;
       fits_from = λ y h. is_any_change p (change_from y) (ap (kind_fits p 4) (again y h) ∙ h);
       back = again;
@@ -225,7 +225,7 @@ with_kind_read p k old mid new (Some y) e h =
     let kind = eqb-true (kind_of y) k parts.0 in
     (e ∙ (ap (λ (m : List ℕ). k ∷ m) h.0 ∙ (ap (λ z. z ∷ (fields_bytes y ++ new)) (sym kind) ∙ ap (λ (m : List ℕ). m ++ new) (sym (frame_is y)))), parts.1)
 
-pub with_kind : (p : Params) (k : ℕ) (old mid new : List ℕ) (found : Option PlainFrame) → old ≡ k ∷ mid → Finds fields_bytes (kind_fits p k) mid found new → Finds frame_bytes (frame_fits p) old found new
+pub with_kind : (p : Params) (k : ℕ) (old mid new : List ℕ) (found : Option PlainFrame) → old ≡ k ∷ mid → FindsWhere fields_bytes (kind_fits p k) mid found new → FindsWhere frame_bytes (frame_fits p) old found new
 with_kind p k old mid new found e f = record {
   read = with_kind_read p k old mid new found e f.read;
   each = λ y rest fits h.
@@ -234,11 +234,11 @@ with_kind p k old mid new found e f = record {
 }
 
 pub ok_with_kind : {B E : Type 0} (h : B → PlainFrame) (r : Result (Option B) E) (p : Params) (k : ℕ) (old mid new : List ℕ) → old ≡ k ∷ mid
-    → IfOk r (λ found. Finds fields_bytes (kind_fits p k) mid (option_map h found) new) → IfOk r (λ found. Finds frame_bytes (frame_fits p) old (option_map h found) new)
+    → IfOk r (λ found. FindsWhere fields_bytes (kind_fits p k) mid (option_map h found) new) → IfOk r (λ found. FindsWhere frame_bytes (frame_fits p) old (option_map h found) new)
 ok_with_kind h (Ok found) p k old mid new e f = with_kind p k old mid new (option_map h found) e f
 ok_with_kind h (Err x) p k old mid new e f = tt
 
-pub no_kind : (p : Params) (old new : List ℕ) → old ≡ [] → Finds frame_bytes (frame_fits p) old None new
+pub no_kind : (p : Params) (old new : List ℕ) → old ≡ [] → FindsWhere frame_bytes (frame_fits p) old None new
 no_kind p old new e = record {
   read = tt;
   each = λ y rest fits h.
@@ -247,6 +247,6 @@ no_kind p old new e = record {
 }
 
 -- all of the bytes
-pub whole_frame : (p : Params) (bytes old new : List ℕ) (found : Option PlainFrame) → old ≡ bytes → Finds frame_bytes (frame_fits p) old found new
+pub whole_frame : (p : Params) (bytes old new : List ℕ) (found : Option PlainFrame) → old ≡ bytes → FindsWhere frame_bytes (frame_fits p) old found new
     → (f : PlainFrame) → IsFrame p bytes f → (found ≡ Some f) × (new ≡ [])
 whole_frame p bytes old new found e h f is = h.each f [] is.fits (e ∙ (is.spelled ∙ sym (append-nil (frame_bytes f))))

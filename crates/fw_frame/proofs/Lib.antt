@@ -8,3 +8,5 @@ pub mod Fields
 pub mod FrameFields
 pub mod Writing
 pub mod Beginning
+pub mod Undoing
+pub mod View

@@ -4,8 +4,9 @@ use Rattle.std.specs.List.{flat_map, list_all}
 use Rattle.std.proofs.lemmas.Bool.{and_parts, and_from, leb-true, ltb-true, eqb-true, eq-eqb, le-leb, lt-ltb}
 use Rattle.std.proofs.lemmas.List.{append-nil}
 use Rattle.std.proofs.lemmas.List.Concat.{flat_map-append}
-use Rattle.fw_frame.specs.Ranges.{ascending}
-use Rattle.fw_frame.specs.Reading.{Finds, list_fits}
+use Rattle.fw_list.specs.Numbers.{ascending}
+use Rattle.fw_wire.specs.Reading.{FindsWhere}
+use Rattle.fw_frame.specs.Reading.{list_fits}
 
 -- each item fits, and its key is at least one above the key before it, the first at least `least`
 abbrev pub rises : {A : Type 0} → (A → ℕ) → (A → Bool) → ℕ → List A → Bool
@@ -41,7 +42,7 @@ regroup items x more = append_assoc items (x ∷ []) more
 
 goes_on : {A : Type 0} (text : A → List ℕ) (key : A → ℕ) (fits : A → Bool) (least : ℕ) (all items : List A) (left left' rest : List ℕ) (x : A)
     → (more : List A) → all ≡ items ++ more → IsTrue (rises key fits least more) → left ≡ flat_map text more ++ rest
-    → length items < length all → Finds text (next_fits key fits least) left (Some x) left' → Rest text key fits (key x + 1) all (items ++ x ∷ []) left' rest
+    → length items < length all → FindsWhere text (next_fits key fits least) left (Some x) left' → Rest text key fits (key x + 1) all (items ++ x ∷ []) left' rest
 goes_on text key fits least all items left left' rest x [] a r e lt p = absurd (omega (arith, ap length a, length-append items []))
 goes_on text key fits least all items left left' rest x (y ∷ more) a r e lt p =
     let parts = and_parts (nat_le least (key y) && fits y) (rises key fits (key y + 1) more) r in
@@ -56,7 +57,7 @@ goes_on text key fits least all items left left' rest x (y ∷ more) a r e lt p 
 
 stops : {A : Type 0} (text : A → List ℕ) (key : A → ℕ) (fits : A → Bool) (least : ℕ) (all items : List A) (left left' rest : List ℕ)
     → (more : List A) → all ≡ items ++ more → IsTrue (rises key fits least more) → left ≡ flat_map text more ++ rest
-    → length items < length all → Finds text (next_fits key fits least) left None left' → ⊥
+    → length items < length all → FindsWhere text (next_fits key fits least) left None left' → ⊥
 stops text key fits least all items left left' rest [] a r e lt p = omega (arith, ap length a, length-append items [])
 stops text key fits least all items left left' rest (y ∷ more) a r e lt p =
     let parts = and_parts (nat_le least (key y) && fits y) (rises key fits (key y + 1) more) r in
@@ -65,7 +66,7 @@ stops text key fits least all items left left' rest (y ∷ more) a r e lt p =
 
 -- one more item
 pub one_more : {A : Type 0} {text : A → List ℕ} {key : A → ℕ} {fits : A → Bool} {first count : ℕ} {bytes : List ℕ} {least : ℕ} {items : List A} {left left' : List ℕ} {x : A}
-    → SoFar text key fits first count bytes least items left → length items < count → Finds text (next_fits key fits least) left (Some x) left'
+    → SoFar text key fits first count bytes least items left → length items < count → FindsWhere text (next_fits key fits least) left (Some x) left'
     → SoFar text key fits first count bytes (key x + 1) (items ++ x ∷ []) left'
 one_more {text = text} {key = key} {fits = fits} {first = first} {count = count} {bytes = bytes} {least = least} {items = items} {left = left} {left' = left'} {x = x} s lt p = record {
   read = s.read ∙ (ap (λ (m : List ℕ). flat_map text items ++ m) p.read.0 ∙ (sym (append_assoc (flat_map text items) (text x) left')
@@ -122,8 +123,8 @@ list_parts key fits count xs h =
 
 -- no next item: no list
 pub no_item : {A : Type 0} {text : A → List ℕ} {key : A → ℕ} {fits : A → Bool} {first count : ℕ} {bytes : List ℕ} {least : ℕ} {items : List A} {left left' new : List ℕ}
-    → ((x : A) → IsTrue (fits x) → first ≤ key x) → SoFar text key fits first count bytes least items left → length items < count → Finds text (next_fits key fits least) left None left'
-    → Finds (flat_map text) (list_fits key fits count) bytes None new
+    → ((x : A) → IsTrue (fits x) → first ≤ key x) → SoFar text key fits first count bytes least items left → length items < count → FindsWhere text (next_fits key fits least) left None left'
+    → FindsWhere (flat_map text) (list_fits key fits count) bytes None new
 no_item {text = text} {key = key} {fits = fits} {first = first} {count = count} {least = least} {items = items} {left = left} {left' = left'} low s lt p = record {
   read = tt;
   each = λ all rest h e.
@@ -139,7 +140,7 @@ nothing_more text all items left rest (y ∷ more) a e len = absurd (omega (arit
 -- all items
 pub all_read : {A : Type 0} {text : A → List ℕ} {key : A → ℕ} {fits : A → Bool} {first count : ℕ} {bytes : List ℕ} {least : ℕ} {items : List A} {left : List ℕ}
     → ((x : A) → IsTrue (fits x) → first ≤ key x) → SoFar text key fits first count bytes least items left → length items ≡ count
-    → Finds (flat_map text) (list_fits key fits count) bytes (Some items) left
+    → FindsWhere (flat_map text) (list_fits key fits count) bytes (Some items) left
 all_read {text = text} {key = key} {fits = fits} {first = first} {count = count} {least = least} {items = items} {left = left} low s len = record {
   read =
       let whole : IsTrue (rises key fits first items) = subst (λ zs. IsTrue (rises key fits first zs)) (append-nil items) (s.rising [] refl) in

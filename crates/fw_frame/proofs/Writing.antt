@@ -12,7 +12,8 @@ use Rattle.fw_frame.specs.declared.frame.Change.{Change}
 use Rattle.fw_frame.specs.declared.frame.Frame.{Frame}
 use Rattle.fw_frame.specs.declared.frame.Frame.TheVariants as frame
 use Rattle.fw_frame.specs.Plain.{plain, plain_signer, plain_proof, plain_change, plain_entry}
-use Rattle.fw_frame.specs.Ranges.{ascending, view_fits, number_fits, entry_fits, signers_fit, signer_fits, proof_fits, proofs_fit, change_fits, changes_fit, values_fit, frame_fits}
+use Rattle.fw_list.specs.Numbers.{ascending}
+use Rattle.fw_frame.specs.Ranges.{view_fits, number_fits, entry_fits, signers_fit, signer_fits, proof_fits, proofs_fit, change_fits, changes_fit, values_fit, frame_fits}
 use Rattle.fw_frame.specs.Writing.{IsCountable, IsWritableProof, IsWritableChange, IsWritable}
 use Rattle.fw_frame.proofs.Fields.{three, four, five}
 

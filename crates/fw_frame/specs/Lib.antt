@@ -8,3 +8,5 @@ pub mod Gathered
 pub mod Reading
 pub mod Writing
 pub mod Needing
+pub mod Undoing
+pub mod View

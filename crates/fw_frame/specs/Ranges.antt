@@ -1,18 +1,12 @@
 -- Which frames a deployment has: the ranges of their fields.
-use Rattle.std.specs.Prelude.{ℕ, ◌≡◌, Bool, true, ◌&&◌, ◌||◌, nat_eq, nat_lt, nat_le, List, [], ◌∷◌, length, map, IsTrue, Some, None}
+use Rattle.std.specs.Prelude.{ℕ, ◌≡◌, Bool, true, ◌&&◌, ◌||◌, nat_eq, nat_lt, nat_le, List, length, map, IsTrue, Some, None}
 use Rattle.std.specs.List.{list_all}
 use Rattle.fw_base.specs.declared.params.Params.{Params}
-use Rattle.fw_list.specs.Numbers.{within}
+use Rattle.fw_list.specs.Numbers.{within, ascending}
 use Rattle.fw_list.specs.declared.limits.TheConstants.{BODY_LEN, SIGNATURE_LEN}
 use Rattle.fw_base.specs.Sizes.{agreements, executors, quorum}
 use Rattle.fw_frame.specs.Frames.{PlainRequest, PlainEntry, PlainSigner, PlainProof, PlainChange, PlainFrame, Request, Propose, Vote, Change, NewView, Agreed, Share, Reply, Want}
 use Rattle.fw_frame.specs.Spelling.{frame_bytes}
-
--- each number of a list is above the one before it
-abbrev pub ascending : List ℕ → Bool
-ascending [] = true
-ascending (x ∷ []) = true
-ascending (x ∷ y ∷ xs) = nat_lt x y && ascending (y ∷ xs)
 
 abbrev pub has_length : ℕ → List ℕ → Bool
 has_length n bytes = nat_eq (length bytes) n

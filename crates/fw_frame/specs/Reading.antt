@@ -1,16 +1,11 @@
 -- What reading finds at the front of bytes.
-use Rattle.std.specs.Prelude.{◌≡◌, ℕ, Bool, ◌&&◌, nat_eq, List, ◌++◌, length, drop, map, Option, Some, IfSome, IsTrue}
+use Rattle.std.specs.Prelude.{ℕ, Bool, ◌&&◌, nat_eq, List, ◌++◌, length, drop, map}
 use Rattle.std.specs.List.{list_all}
-use Rattle.fw_list.specs.Numbers.{u32}
+use Rattle.fw_list.specs.Numbers.{u32, ascending}
 use Rattle.fw_base.specs.declared.params.Params.{Params}
 use Rattle.fw_frame.specs.Frames.{PlainFrame, Request, Propose, Vote, Change, NewView, Agreed, Share, Reply, Want}
-use Rattle.fw_frame.specs.Ranges.{ascending, answer_fits, frame_fits}
+use Rattle.fw_frame.specs.Ranges.{answer_fits, frame_fits}
 use Rattle.fw_frame.specs.Spelling.{frame_bytes}
-
--- the one value of a kind that the bytes begin with, and what is left behind it; nothing, exactly where they begin with none
-pub record Finds {A : Type 0} (text : A → List ℕ) (fits : A → Bool) (bytes : List ℕ) (found : Option A) (left : List ℕ) : Type 0 where
-  pub read : IfSome found (λ x. (bytes ≡ text x ++ left) × IsTrue (fits x))
-  pub each : (x : A) (rest : List ℕ) → IsTrue (fits x) → bytes ≡ text x ++ rest → (found ≡ Some x) × (left ≡ rest)
 
 -- the kind of a frame, which is its first byte, and the bytes of its fields
 abbrev pub kind_of : PlainFrame → ℕ

@@ -11,6 +11,6 @@ mod texts;
 mod write;
 
 pub use frame::{Change, ChangeList, Entry, Frame, Proof, ProofList, Request, Signer, Signers};
-pub use parts::{Part, PartList};
+pub use parts::{Part, PartList, vote_slot};
 pub use shown::{Carried, Shown, Text, TextList};
-pub use texts::entry_digest;
+pub use texts::{entry_digest, three_numbers, two_numbers};

@@ -12,10 +12,12 @@ ghost use Rattle.fw_base.specs.Sizes.{accepted};
 ghost use Rattle.fw_frame.specs.Frames.{PlainFrame};
 ghost use Rattle.fw_frame.specs.Plain.{plain};
 ghost use Rattle.fw_frame.specs.Ranges.{IsFrame, frame_fits};
-ghost use Rattle.fw_frame.specs.Reading.{Finds, kind_fits, fields_bytes};
+ghost use Rattle.fw_wire.specs.Reading.{FindsWhere};
+ghost use Rattle.fw_frame.specs.Reading.{kind_fits, fields_bytes};
 ghost use Rattle.fw_frame.specs.Spelling.{frame_bytes};
 ghost use Rattle.fw_frame.specs.Writing.{IsWritable};
 ghost use Rattle.fw_frame.specs.Needing.{HasLists};
+ghost use Rattle.fw_frame.specs.Undoing.{frame_in};
 
 use crate::Frame;
 use fw_base::Params;
@@ -31,7 +33,7 @@ fn of_kind<'a>(
     kind: u8,
 ) -> Result<Option<Frame<'a>>, Memory>
     requires { IsTrue (accepted params.now) }
-    ensures found { IfOk result (λ found. Finds fields_bytes (kind_fits params.now kind) reader.old (option_map plain found) reader.new) }
+    ensures found { IfOk result (λ found. FindsWhere fields_bytes (kind_fits params.now kind) reader.old (option_map plain found) reader.new) }
     ensures memory { OnErr result (HasLists params.now (kind ∷ reader.old)) }
 {
     match kind {
@@ -55,7 +57,7 @@ fn frame<'a>(
     reader: &mut Reader<'a>,
 ) -> Result<Option<Frame<'a>>, Memory>
     requires { IsTrue (accepted params.now) }
-    ensures found { IfOk result (λ found. Finds frame_bytes (frame_fits params.now) reader.old (option_map plain found) reader.new) }
+    ensures found { IfOk result (λ found. FindsWhere frame_bytes (frame_fits params.now) reader.old (option_map plain found) reader.new) }
     ensures memory { OnErr result (HasLists params.now reader.old) }
 {
     let Some(kind) = reader.u8() else {
@@ -76,6 +78,8 @@ impl<'a> Frame<'a> {
         // What is read can be written.
         ensures writable { IfOk result (λ r. IfSome r IsWritable) }
         ensures each { IfOk result (λ r. (f : PlainFrame) → IsFrame params.now bytes.now f → option_map plain r ≡ Some f) }
+        // What is found is a function of the bytes.
+        ensures value { IfOk result (λ found. option_map plain found ≡ frame_in params.now bytes.now) }
         // Other bytes than these need no memory.
         ensures memory { OnErr result (HasLists params.now bytes.now) }
     {

@@ -50,12 +50,25 @@ pub fn text_of_request(alloc: Global, request: &Request<'_>) -> Result<Text, Mem
 
 /// Two numbers, in four bytes each.
 #[tactic(auto, unfolding(fw_list::specs::Numbers::u32))]
-fn two_numbers(first: u32, second: u32) -> [u8; 8]
-    ensures { result ≡ u32 first ++ u32 second }
+pub fn two_numbers(first: u32, second: u32) -> [u8; 8]
+    ensures value { result ≡ u32 first ++ u32 second }
+    ensures len { length result ≡ 8 }
 {
     let mut bytes = [0; 8];
     bytes[..4].copy_from_slice(&first.to_be_bytes());
     bytes[4..].copy_from_slice(&second.to_be_bytes());
+    bytes
+}
+
+/// Three numbers, in four bytes each.
+#[tactic(auto, unfolding(fw_list::specs::Numbers::u32))]
+pub fn three_numbers(first: u32, second: u32, third: u32) -> [u8; 12]
+    ensures { result ≡ u32 first ++ u32 second ++ u32 third }
+{
+    let mut bytes = [0; 12];
+    bytes[..4].copy_from_slice(&first.to_be_bytes());
+    bytes[4..8].copy_from_slice(&second.to_be_bytes());
+    bytes[8..].copy_from_slice(&third.to_be_bytes());
     bytes
 }
 

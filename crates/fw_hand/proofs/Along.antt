@@ -5,7 +5,8 @@ use Rattle.std.specs.List.{All}
 use Rattle.std.proofs.lemmas.List.{append-nil, map_push}
 use Rattle.std.proofs.lemmas.List.Concat.{flat_map-append}
 use Rattle.std.proofs.lemmas.List.Elements.{All-head, All-tail, All-push}
-use Rattle.fw_hand.specs.Reading.{Finds, AreOf}
+use Rattle.fw_wire.specs.Reading.{Finds}
+use Rattle.fw_hand.specs.Reading.{AreOf}
 
 -- an item of a key
 abbrev pub IsAt : {A K : Type 0} → (A → K) → (A → Type 0) → K → A → Type 0

@@ -1,34 +1,24 @@
 -- The head of a hand file.
 use Rattle.std.proofs.Common.{◌≡◌, ℕ, ◌+◌, ◌*◌, ◌^◌, ◌<◌, ◌≤◌, ◌≢◌, nat_lt, List, [], ◌++◌, length, Option, Some, None, refl, sym, ap, ◌∙◌, append_assoc, arith, rules, IsTrue, length-append}
 use Rattle.std.specs.Prelude.{MatchOption, IfSome}
-use Rattle.std.specs.Int.{w32, to_be_bytes, from_be_bytes}
 use Rattle.std.proofs.Math.Arith.{digits_lt}
 use Rattle.std.proofs.lemmas.Bool.{and_parts, ltb-true}
 use Rattle.std.proofs.lemmas.List.{append-nil}
-use Rattle.std.proofs.lemmas.Nat.{from_be_bytes-to_be_bytes_4}
 use Rattle.fw_list.specs.Numbers.{u32}
 use Rattle.fw_base.specs.declared.params.Params.{Params}
 use Rattle.fw_base.specs.declared.seat.Seat.{Seat}
 use Rattle.fw_base.specs.declared.seat.Seat.TheVariants.{Agree, Exec, Filter, Client}
 use Rattle.fw_base.specs.Seats.{fits, seat_index, seats, filters_from}
 use Rattle.fw_base.specs.Sizes.{accepted, agreements, executors, width}
-use Rattle.fw_base.proofs.Placing.{one_row}
+use Rattle.fw_base.proofs.Placing.{one_row, behind}
 use Rattle.fw_base.proofs.Naming.{agreements_few, executors_few, width_small, clients_few}
 use Rattle.fw_hand.specs.Files.{params_bytes}
-use Rattle.fw_hand.specs.Reading.{Finds, IsWord, four_bytes, AreFour, then_text, ThenFits, AreWords, mark_of, mark_bytes, IsSeatOf}
-use Rattle.fw_hand.proofs.Finding.{Same}
+use Rattle.fw_wire.specs.Reading.{Finds, then_text, ThenFits}
+use Rattle.fw_hand.specs.Reading.{IsWord, four_bytes, AreFour, AreWords, mark_of, mark_bytes, IsSeatOf}
+use Rattle.fw_wire.proofs.Reading.{Same}
+use Rattle.fw_wire.proofs.Fronts.{u32_split, length-u32}
 
 -- ---- numbers
-
-u32_split : (m n : ℕ) (xs ys : List ℕ) → m < 2 ^ 32 → n < 2 ^ 32 → u32 m ++ xs ≡ u32 n ++ ys → (m ≡ n) × (xs ≡ ys)
-unfolding u32
-u32_split m n xs ys f g e =
-    let same : to_be_bytes w32 m ≡ to_be_bytes w32 n = cc in
-    (sym (from_be_bytes-to_be_bytes_4 m f) ∙ ap (from_be_bytes w32) same ∙ from_be_bytes-to_be_bytes_4 n g, cc)
-
-length-u32 : (n : ℕ) → length (u32 n) ≡ 4
-unfolding u32
-length-u32 n = refl
 
 pub number_finds : (old new : List ℕ) (found : Option ℕ) → MatchOption found ((length old < 4) × (new ≡ old)) (λ n. old ≡ u32 n ++ new) → IfSome found (λ n. n < 2 ^ 32) → Finds u32 IsWord old found new
 number_finds old new None h small = record { read = tt; each = λ n rest fits e. absurd (omega (arith, h.0, length-u32 n, length-append (u32 n) rest, ap length e)) }
@@ -100,11 +90,8 @@ same_seat p (Filter r c) (Exec j) f g e = absurd (omega (arith, ltb-true j (exec
 same_seat p (Filter r c) (Filter s d) f g e =
     let one = and_parts (nat_lt r (width p)) (nat_lt c (width p)) f in
     let other = and_parts (nat_lt s (width p)) (nat_lt d (width p)) g in
-    let same = one_row r c s d (width p) (ltb-true c (width p) one.1) (ltb-true d (width p) other.1) (past (filters_from p) (r * width p) c (s * width p) d e) in
+    let same = one_row r c s d (width p) (ltb-true c (width p) one.1) (ltb-true d (width p) other.1) (behind (filters_from p) (r * width p) c (s * width p) d e) in
     ap (λ x. Filter x c) same.0 ∙ ap (Filter s) same.1
-  where
-    past : (a b c d e : ℕ) → a + b + c ≡ a + d + e → b + c ≡ d + e
-    past a b c d e same = omega arith
 same_seat p (Filter r c) (Client d) f g e = absurd (far (filters_from p) (r * width p) c (width p * width p) d (filter_inside p r c f) e)
 same_seat p (Client c) (Agree j) f g e = absurd (omega (arith, ltb-true j (agreements p) g, e))
 same_seat p (Client c) (Exec j) f g e = absurd (omega (arith, ltb-true j (executors p) g, e))

@@ -4,11 +4,12 @@ use Rattle.fw_list.specs.declared.limits.TheConstants.{ROW_LEN}
 use Rattle.fw_base.specs.declared.params.Params.{Params}
 use Rattle.fw_base.specs.declared.slot.Slot.{Slot}
 use Rattle.fw_base.specs.Sizes.{accepted}
-use Rattle.fw_op.proofs.Fronts.{same_front}
+use Rattle.fw_wire.proofs.Fronts.{same_front}
 use Rattle.fw_directory.specs.Directories.{PlainDirectory, rows}
 use Rattle.fw_hand.specs.declared.hand.Held.{Held}
 use Rattle.fw_hand.specs.Hands.{AreListed}
-use Rattle.fw_hand.specs.Reading.{Finds, IsHalf, IsHeldAt, IsDirectoryFor}
+use Rattle.fw_wire.specs.Reading.{Finds}
+use Rattle.fw_hand.specs.Reading.{IsHalf, IsHeldAt, IsDirectoryFor}
 
 -- ---- halves of keys
 

@@ -1,6 +1,5 @@
 -- The files of lemmas.
 pub mod Along
-pub mod Finding
 pub mod Heads
 pub mod Items
 pub mod Larger

@@ -8,8 +8,9 @@ use Rattle.fw_base.specs.declared.seat.Seat.{Seat}
 use Rattle.fw_directory.specs.Directories.{PlainDirectory}
 use Rattle.fw_hand.specs.Hands.{PlainHand, IsHandIn}
 use Rattle.fw_hand.specs.Files.{params_bytes, seat_mark, part_bytes, hand_file, IsHandFile}
-use Rattle.fw_hand.specs.Reading.{Finds, then_text, ThenFits, mark_of, IsSeatOf, head_bytes, IsHead, IsDirectoryFor, IsPartOf, file_bytes, IsFile}
-use Rattle.fw_hand.proofs.Finding.{Same}
+use Rattle.fw_wire.specs.Reading.{Finds, then_text, ThenFits}
+use Rattle.fw_hand.specs.Reading.{mark_of, IsSeatOf, head_bytes, IsHead, IsDirectoryFor, IsPartOf, file_bytes, IsFile}
+use Rattle.fw_wire.proofs.Reading.{Same}
 
 -- ---- the whole
 

@@ -1,6 +1,7 @@
--- What reading finds at the front of bytes.
+-- What the parts of a hand file are, one behind the other.
 use Rattle.std.specs.Prelude.{◌≡◌, ℕ, ◌*◌, ◌<◌, ◌≤◌, ◌^◌, List, ◌++◌, length, codes, map, Option, Some, None, IfSome, IsTrue, All, option_map}
 use Rattle.fw_list.specs.Numbers.{u32}
+use Rattle.fw_wire.specs.Reading.{then_text, ThenFits}
 use Rattle.fw_base.specs.declared.params.Params.{Params}
 use Rattle.fw_base.specs.declared.seat.Seat.{Seat}
 use Rattle.fw_base.specs.declared.slot.Slot.{Slot}
@@ -13,18 +14,6 @@ use Rattle.fw_hand.specs.declared.hand.Held.{Held}
 use Rattle.fw_hand.specs.declared.hand.HeldKey.{HeldKey}
 use Rattle.fw_hand.specs.Hands.{PlainHand, IsListed, IsKey, IsHandIn, point_of, slots_of, clients_of}
 use Rattle.fw_hand.specs.Files.{params_bytes, hand_file}
-
--- the one value of a kind that the bytes begin with, and what is left behind it; nothing, exactly where they begin with none
-pub record Finds {A : Type 0} (text : A → List ℕ) (Fits : A → Type 0) (bytes : List ℕ) (found : Option A) (left : List ℕ) : Type 0 where
-  pub read : IfSome found (λ x. (bytes ≡ text x ++ left) × Fits x)
-  pub each : (x : A) (rest : List ℕ) → Fits x → bytes ≡ text x ++ rest → (found ≡ Some x) × (left ≡ rest)
-
--- one value and another behind it, whose spelling and range follow from the first
-abbrev pub then_text : {A B : Type 0} → (A → List ℕ) → (A → B → List ℕ) → A × B → List ℕ
-then_text t u x = t x.0 ++ u x.0 x.1
-
-abbrev pub ThenFits : {A B : Type 0} → (A → Type 0) → (A → B → Type 0) → A × B → Type 0
-ThenFits F G x = F x.0 × G x.0 x.1
 
 -- the values of a list belong to these keys, in their order, and each fits
 abbrev pub AreOf : {A K : Type 0} → (A → K) → (A → Type 0) → List K → List A → Type 0

@@ -10,7 +10,8 @@ ghost use Rattle.fw_text.specs.Texts.{hash, Value};
 ghost use Rattle.fw_lamport.specs.Signature.{place_at};
 ghost use Rattle.fw_directory.specs.Directories.{digest_at};
 ghost use Rattle.fw_hand.specs.Hands.{point_of, AreListed};
-ghost use Rattle.fw_hand.specs.Reading.{Finds, IsHeldAt, AreHeldBy};
+ghost use Rattle.fw_wire.specs.Reading.{Finds};
+ghost use Rattle.fw_hand.specs.Reading.{IsHeldAt, AreHeldBy};
 
 use crate::Held;
 use crate::sizes::are_same;
@@ -81,7 +82,7 @@ fn one_in(
 }
 
 /// The point at which a seat has the values of its slots.
-fn point_of(params: &Params, seat: Seat) -> u32
+pub fn point_of(params: &Params, seat: Seat) -> u32
     requires sizes { IsTrue (accepted params.now) }
     requires fits { IsTrue (fits params.now seat) }
     ensures { result ≡ point_of seat }

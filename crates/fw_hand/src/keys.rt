@@ -4,7 +4,8 @@ ghost use Rattle.std.specs.Prelude.{◌≡◌, flat_map, IfOk, IsTrue};
 ghost use Rattle.fw_base.specs.Sizes.{accepted};
 ghost use Rattle.fw_hand.specs.Files.{held_key_bytes, records_bytes};
 ghost use Rattle.fw_hand.specs.Hands.{AreStartsOf};
-ghost use Rattle.fw_hand.specs.Reading.{Finds, IsHalf, IsKeyOf, AreKeysFor};
+ghost use Rattle.fw_wire.specs.Reading.{Finds};
+ghost use Rattle.fw_hand.specs.Reading.{IsHalf, IsKeyOf, AreKeysFor};
 
 use crate::HeldKey;
 use crate::slots::clients_of;

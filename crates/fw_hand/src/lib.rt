@@ -12,4 +12,5 @@ mod writing;
 
 pub use file::{read_hand, write_hand};
 pub use hand::{Hand, Held, HeldKey};
+pub use held::point_of;
 pub use slots::{clients_of, slots_of};

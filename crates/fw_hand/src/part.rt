@@ -6,14 +6,15 @@ ghost use Rattle.fw_base.specs.Sizes.{accepted};
 ghost use Rattle.fw_base.specs.Seats.{fits};
 ghost use Rattle.fw_directory.specs.Directories.{rows};
 ghost use Rattle.fw_hand.specs.Files.{part_bytes};
-ghost use Rattle.fw_hand.specs.Reading.{Finds, IsDirectoryFor, IsHandOf, IsPartOf, HasDirectory, file_bytes, IsFile};
+ghost use Rattle.fw_wire.specs.Reading.{Finds};
+ghost use Rattle.fw_hand.specs.Reading.{IsDirectoryFor, IsHandOf, IsPartOf, HasDirectory, file_bytes, IsFile};
 
 use crate::Hand;
 use crate::held::held_in;
 use crate::keys::{keys_in, starts_in};
 use crate::sizes::head_in;
 use fw_base::{Params, Seat};
-use fw_directory::Directory;
+use fw_directory::{Directory, row_count};
 use fw_list::{Bytes, Memory, ROW_LEN};
 use fw_wire::Reader;
 use std::alloc::Global;
@@ -23,11 +24,7 @@ fn digests_len(params: &Params) -> usize
     requires { IsTrue (accepted params.now) }
     ensures { result ≡ ROW_LEN * rows params.now }
 {
-    let agreements = params.agreements();
-    let votes = params.views * params.numbers * agreements;
-    let keys = 2 * votes + 2 * (params.views * agreements) + params.clients * params.stamps;
-    let rows = keys + params.numbers * (params.executors() + 1);
-    ROW_LEN * rows as usize
+    ROW_LEN * row_count(params) as usize
 }
 
 /// The directory of these sizes.

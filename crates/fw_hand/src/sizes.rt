@@ -4,7 +4,8 @@ ghost use Rattle.std.specs.Prelude.{◌≡◌, ◌↔◌, ◌++◌, List, ℕ, c
 ghost use Rattle.fw_list.specs.Numbers.{u32};
 ghost use Rattle.fw_base.specs.Sizes.{accepted};
 ghost use Rattle.fw_hand.specs.Files.{params_bytes};
-ghost use Rattle.fw_hand.specs.Reading.{Finds, IsWord, two_bytes, AreTwo, four_bytes, AreFour, AreWords, lettered_bytes, AreAccepted, mark_bytes, IsSeatOf, head_bytes, IsHead};
+ghost use Rattle.fw_wire.specs.Reading.{Finds};
+ghost use Rattle.fw_hand.specs.Reading.{IsWord, two_bytes, AreTwo, four_bytes, AreFour, AreWords, lettered_bytes, AreAccepted, mark_bytes, IsSeatOf, head_bytes, IsHead};
 
 use crate::file::PUBLIC;
 use fw_base::{Params, Seat};

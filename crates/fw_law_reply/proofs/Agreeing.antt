@@ -4,16 +4,16 @@ use Rattle.std.specs.Prelude.{slice_get}
 use Rattle.std.proofs.lemmas.Option.{none-some, same_Some}
 use Rattle.fw_base.specs.declared.seat.Seat.{Seat}
 use Rattle.fw_base.specs.declared.seat.Seat.TheVariants.{Agree, Exec, Filter, Client}
-use Rattle.fw_ref.specs.declared.asked.Asked.{Asked}
-use Rattle.fw_ref.specs.declared.asked.Answer.{Answer}
+use Rattle.typed_ref.specs.declared.asked.Asked.{Asked}
+use Rattle.typed_ref.specs.declared.asked.Answer.{Answer}
 use Rattle.fw_trace.specs.declared.Input.TheVariants.{Heard, Tick, Submitted}
 use Rattle.fw_trace.specs.Role.{kept, sends}
 use Rattle.fw_trace.proofs.Words.{In, In-append}
 use Rattle.fw_trace.proofs.Source.{Hears, AllHeard, EverSent}
-use Rattle.fw_node.specs.declared.Message.{Message}
-use Rattle.fw_node.specs.declared.Message.TheVariants as message
-use Rattle.fw_node.specs.Given.{Taken}
-use Rattle.fw_rules.specs.Agree.{Out, Agreement, held_at, replied, agreed_message, goes_up, heard, agree_next, agree_role}
+use Rattle.typed_node.specs.declared.Message.{Message}
+use Rattle.typed_node.specs.declared.Message.TheVariants as message
+use Rattle.typed_node.specs.Given.{Taken}
+use Rattle.typed_rules.specs.Agree.{Out, Agreement, held_at, replied, agreed_message, goes_up, heard, agree_next, agree_role}
 
 -- if it is an agreement node, it is the first
 abbrev pub IsFirst : Seat → Type 0

@@ -6,18 +6,18 @@ use Rattle.fw_base.specs.declared.seat.Seat.{Seat}
 use Rattle.fw_base.specs.declared.seat.Seat.TheVariants.{Agree}
 use Rattle.fw_op.specs.declared.op.Op.{Op}
 use Rattle.fw_op.specs.declared.reply.Reply.{Reply}
-use Rattle.fw_ref.specs.declared.asked.Asked.{Asked}
-use Rattle.fw_ref.specs.declared.asked.Answer.{Answer}
+use Rattle.typed_ref.specs.declared.asked.Asked.{Asked}
+use Rattle.typed_ref.specs.declared.asked.Answer.{Answer}
 use Rattle.fw_trace.specs.declared.Told.{Told}
 use Rattle.fw_trace.specs.declared.Input.TheVariants.{Heard, Tick, Submitted}
 use Rattle.fw_trace.specs.Role.{kept, sends}
 use Rattle.fw_trace.specs.Client.{Client, taken, stamp, ask, go_on, submit, hear, again, client_next}
 use Rattle.fw_trace.proofs.Words.{In}
 use Rattle.fw_trace.proofs.Source.{Hears, AllHeard}
-use Rattle.fw_node.specs.declared.Message.{Message}
-use Rattle.fw_node.specs.declared.Message.TheVariants as message
-use Rattle.fw_node.specs.Given.{Taken}
-use Rattle.fw_rules.specs.Speeches.{told_to, client_speech, client_role}
+use Rattle.typed_node.specs.declared.Message.{Message}
+use Rattle.typed_node.specs.declared.Message.TheVariants as message
+use Rattle.typed_node.specs.Given.{Taken}
+use Rattle.typed_rules.specs.Speeches.{told_to, client_speech, client_role}
 use Rattle.fw_law_reply.specs.Laws.{answer_told}
 use Rattle.fw_law_reply.proofs.Agreeing.{IsFirst}
 

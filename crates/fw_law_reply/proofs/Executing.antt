@@ -4,19 +4,19 @@ use Rattle.std.proofs.lemmas.Bool.{eqb-true}
 use Rattle.std.proofs.lemmas.Option.{none-some, same_Some}
 use Rattle.fw_base.specs.declared.seat.Seat.{Seat}
 use Rattle.fw_base.specs.declared.seat.Seat.TheVariants.{Agree, Exec, Filter, Client}
-use Rattle.fw_ref.specs.declared.asked.Asked.{Asked}
-use Rattle.fw_ref.specs.declared.asked.Answer.{Answer}
-use Rattle.fw_ref.specs.Reference.{Reference, at_start, step, folded}
+use Rattle.typed_ref.specs.declared.asked.Asked.{Asked}
+use Rattle.typed_ref.specs.declared.asked.Answer.{Answer}
+use Rattle.typed_ref.specs.Reference.{Reference, at_start, step, folded}
 use Rattle.fw_trace.specs.declared.Input.TheVariants.{Heard, Tick, Submitted}
 use Rattle.fw_trace.specs.Lists.{first_at}
 use Rattle.fw_trace.specs.Role.{kept, sends}
 use Rattle.fw_trace.specs.Executor.{Executor, Sends, entry_of, keep, execute_one, execute_on, sent_before, option_sends, hear_agreed, keeps_above, executor_next}
 use Rattle.fw_trace.proofs.Words.{In, In-append}
 use Rattle.fw_trace.proofs.Source.{Hears, AllHeard}
-use Rattle.fw_node.specs.declared.Message.{Message}
-use Rattle.fw_node.specs.declared.Message.TheVariants as message
-use Rattle.fw_node.specs.Given.{Taken}
-use Rattle.fw_rules.specs.Speeches.{agreed_in, agreed_from, executor_speech, executor_role}
+use Rattle.typed_node.specs.declared.Message.{Message}
+use Rattle.typed_node.specs.declared.Message.TheVariants as message
+use Rattle.typed_node.specs.Given.{Taken}
+use Rattle.typed_rules.specs.Speeches.{agreed_in, agreed_from, executor_speech, executor_role}
 use Rattle.fw_law_reply.proofs.Agreeing.{IsFirst}
 use Rattle.fw_law_reply.proofs.Listed.{EachFrom, EachFrom-push, as_entry, folded-push, answers-push, Proved}
 

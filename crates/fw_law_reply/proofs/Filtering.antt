@@ -4,8 +4,8 @@ use Rattle.std.proofs.lemmas.Bool.{eqb-true}
 use Rattle.std.proofs.lemmas.Option.{none-some, same_Some}
 use Rattle.fw_base.specs.declared.seat.Seat.{Seat}
 use Rattle.fw_base.specs.declared.seat.Seat.TheVariants.{Agree, Exec}
-use Rattle.fw_ref.specs.declared.asked.Asked.{Asked}
-use Rattle.fw_ref.specs.declared.asked.Answer.{Answer}
+use Rattle.typed_ref.specs.declared.asked.Asked.{Asked}
+use Rattle.typed_ref.specs.declared.asked.Answer.{Answer}
 use Rattle.fw_trace.specs.declared.Share.{Share}
 use Rattle.fw_trace.specs.declared.Input.TheVariants.{Heard, Tick, Submitted}
 use Rattle.fw_trace.specs.Role.{kept, sends}
@@ -13,10 +13,10 @@ use Rattle.fw_trace.specs.Executor.{Sends, sent_before}
 use Rattle.fw_trace.specs.Filter as filters
 use Rattle.fw_trace.proofs.Words.{In, In-append}
 use Rattle.fw_trace.proofs.Source.{Hears, AllHeard}
-use Rattle.fw_node.specs.declared.Message.{Message}
-use Rattle.fw_node.specs.declared.Message.TheVariants as message
-use Rattle.fw_node.specs.Given.{Taken}
-use Rattle.fw_rules.specs.Speeches.{number_up, share_of, combined_of, filter_speech, filter_role}
+use Rattle.typed_node.specs.declared.Message.{Message}
+use Rattle.typed_node.specs.declared.Message.TheVariants as message
+use Rattle.typed_node.specs.Given.{Taken}
+use Rattle.typed_rules.specs.Speeches.{number_up, share_of, combined_of, filter_speech, filter_role}
 use Rattle.fw_law_reply.proofs.Agreeing.{IsFirst}
 
 abbrev State : Type 0

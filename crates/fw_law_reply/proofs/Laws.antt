@@ -14,10 +14,10 @@ use Rattle.fw_trace.specs.Role.{kept}
 use Rattle.fw_trace.proofs.Words.{In-filter, In-reverse, Contains-In}
 use Rattle.fw_trace.proofs.Source.{Pooled}
 use Rattle.fw_trace.proofs.Reached.{run_without_lies}
-use Rattle.fw_node.specs.declared.Message.{Message}
-use Rattle.fw_rules.specs.Speeches.{client_role}
-use Rattle.fw_rules.specs.World.{trace_after, world}
-use Rattle.fw_rules.specs.Outcome.{agreed, let_down, in_row}
+use Rattle.typed_node.specs.declared.Message.{Message}
+use Rattle.typed_rules.specs.Speeches.{client_role}
+use Rattle.typed_rules.specs.World.{trace_after, world}
+use Rattle.typed_rules.specs.Outcome.{agreed, let_down, in_row}
 use Rattle.fw_law_reply.specs.Laws.{answer_told, AcceptsAnswers, IsCertificateIn, LetsDownCertificates, SendsCertificates}
 use Rattle.fw_law_reply.proofs.Listed.{Proved}
 use Rattle.fw_law_reply.proofs.Filtering.{IsReply, FilterOut}

@@ -3,13 +3,13 @@ use Rattle.std.proofs.Common.{ℕ, zero, suc, ◌+◌, ◌≡◌, ◌≤◌, ◌
 use Rattle.std.specs.Prelude.{slice_get}
 use Rattle.std.proofs.lemmas.Bool.{eqb-true, eqb-false}
 use Rattle.std.proofs.lemmas.Option.{none-some, same_Some, slice_get_within}
-use Rattle.fw_ref.specs.declared.asked.Asked.{Asked}
-use Rattle.fw_ref.specs.declared.asked.Answer.{Answer}
-use Rattle.fw_ref.specs.Reference.{Reference, Opened, opened, at_start, step, answers, folded}
+use Rattle.typed_ref.specs.declared.asked.Asked.{Asked}
+use Rattle.typed_ref.specs.declared.asked.Answer.{Answer}
+use Rattle.typed_ref.specs.Reference.{Reference, Opened, opened, at_start, step, answers, folded}
 use Rattle.fw_list.specs.Lists.{numbers_from}
 use Rattle.fw_trace.specs.Lists.{front_of, first_at, greatest_of}
 use Rattle.fw_trace.proofs.Words.{In}
-use Rattle.fw_rules.specs.Outcome.{reference}
+use Rattle.typed_rules.specs.Outcome.{reference}
 
 -- A n e, A (n + 1) e', .. of the list's items
 abbrev pub EachFrom : {E : Type 0} → (ℕ → E → Type 0) → ℕ → List E → Type 0

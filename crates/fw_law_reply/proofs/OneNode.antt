@@ -9,11 +9,11 @@ use Rattle.fw_trace.specs.Trace.{Event}
 use Rattle.fw_trace.specs.Run.{NoLies}
 use Rattle.fw_trace.proofs.Words.{In}
 use Rattle.fw_trace.proofs.Source.{AllHeard, AllPooled, pooled_holds}
-use Rattle.fw_node.specs.declared.Message.{Message}
-use Rattle.fw_node.specs.Given.{Taken}
+use Rattle.typed_node.specs.declared.Message.{Message}
+use Rattle.typed_node.specs.Given.{Taken}
 use Rattle.fw_trace.specs.Role.{kept}
-use Rattle.fw_rules.specs.Agree.{agree_role}
-use Rattle.fw_rules.specs.World.{rule_at, rule_of, rules, trace_after}
+use Rattle.typed_rules.specs.Agree.{agree_role}
+use Rattle.typed_rules.specs.World.{rule_at, rule_of, rules, trace_after}
 use Rattle.fw_law_reply.proofs.Agreeing.{IsFirst, AgreeOut, agree_sends, agree_sends_heard}
 use Rattle.fw_law_reply.proofs.Executing.{executor_sends}
 use Rattle.fw_law_reply.proofs.Filtering.{FilterOut, filter_sends}

@@ -7,9 +7,9 @@ use Rattle.fw_base.specs.declared.params.Params.{Params}
 use Rattle.fw_base.specs.declared.seat.Seat.{Seat}
 use Rattle.fw_base.specs.declared.seat.Seat.TheVariants.{Agree, Exec, Filter, Client}
 use Rattle.fw_op.specs.declared.op.Op.{Op}
-use Rattle.fw_ref.specs.declared.asked.Asked.{Asked}
-use Rattle.fw_ref.specs.declared.asked.Answer.{Answer}
-use Rattle.fw_ref.specs.Reference.{at_start}
+use Rattle.typed_ref.specs.declared.asked.Asked.{Asked}
+use Rattle.typed_ref.specs.declared.asked.Answer.{Answer}
+use Rattle.typed_ref.specs.Reference.{at_start}
 use Rattle.fw_trace.specs.declared.Sent.{Sent}
 use Rattle.fw_trace.specs.Lists.{greatest_of}
 use Rattle.fw_trace.specs.Trace.{Event, history}
@@ -17,13 +17,13 @@ use Rattle.fw_trace.specs.Run.{NoLies, entry_at}
 use Rattle.fw_trace.specs.Role.{kept}
 use Rattle.fw_trace.proofs.Words.{In}
 use Rattle.fw_trace.proofs.Source.{AllHeard, EverSent, Pooled, traced, sent_holds}
-use Rattle.fw_node.specs.declared.Message.{Message}
-use Rattle.fw_node.specs.declared.Message.TheVariants as message
-use Rattle.fw_node.specs.Given.{Taken}
-use Rattle.fw_rules.specs.Agree.{agree_role}
-use Rattle.fw_rules.specs.Speeches.{agreed_in, client_role}
-use Rattle.fw_rules.specs.World.{rule_at, rule_of, rules, trace_after}
-use Rattle.fw_rules.specs.Outcome.{agreed, reference}
+use Rattle.typed_node.specs.declared.Message.{Message}
+use Rattle.typed_node.specs.declared.Message.TheVariants as message
+use Rattle.typed_node.specs.Given.{Taken}
+use Rattle.typed_rules.specs.Agree.{agree_role}
+use Rattle.typed_rules.specs.Speeches.{agreed_in, client_role}
+use Rattle.typed_rules.specs.World.{rule_at, rule_of, rules, trace_after}
+use Rattle.typed_rules.specs.Outcome.{agreed, reference}
 use Rattle.fw_law_reply.specs.Laws.{IsAnswerOf}
 use Rattle.fw_law_reply.proofs.Listed.{EachFrom, EachFrom-weaken, EachFrom-below, Proved, first_at-found, greatest_of-above, front_longer, answers-longer, answer_within}
 use Rattle.fw_law_reply.proofs.Agreeing.{Numbered, one_request, AgreeOut, agree_sent, up_agreed, up_no_reply, down_no_agreed, down_reply}

@@ -4,13 +4,13 @@ use Rattle.fw_base.specs.declared.params.Params.{Params}
 use Rattle.fw_base.specs.declared.seat.Seat.TheVariants.{Agree, Filter}
 use Rattle.fw_op.specs.declared.op.Op.{Op}
 use Rattle.fw_op.specs.declared.reply.Reply.{Reply}
-use Rattle.fw_ref.specs.declared.asked.Asked.{Asked}
-use Rattle.fw_ref.specs.declared.asked.Answer.{Answer}
+use Rattle.typed_ref.specs.declared.asked.Asked.{Asked}
+use Rattle.typed_ref.specs.declared.asked.Answer.{Answer}
 use Rattle.fw_trace.specs.declared.Told.{Told}
 use Rattle.fw_trace.specs.declared.Sent.{Sent}
 use Rattle.fw_trace.specs.Trace.{Trace}
-use Rattle.fw_node.specs.declared.Message.{Message}
-use Rattle.fw_rules.specs.Outcome.{agreed, accepted_by, let_down, answer_at, IsCertificate}
+use Rattle.typed_node.specs.declared.Message.{Message}
+use Rattle.typed_rules.specs.Outcome.{agreed, accepted_by, let_down, answer_at, IsCertificate}
 
 -- the answer that a client was told
 abbrev pub answer_told : ℕ → Told Reply → Answer

@@ -4,10 +4,10 @@
 ghost use Rattle.std.specs.Prelude.{◌≡◌, List, Ok};
 ghost use Rattle.fw_base.specs.declared.params.Params.{Params};
 ghost use Rattle.fw_op.specs.declared.op.Op.{Op};
-ghost use Rattle.fw_node.specs.declared.Message.{Message};
+ghost use Rattle.typed_node.specs.declared.Message.{Message};
 ghost use Rattle.fw_trace.specs.Trace.{Trace, Event};
 ghost use Rattle.fw_trace.specs.Run.{Step, run, NoLies};
-ghost use Rattle.fw_rules.specs.World.{trace_after, world};
+ghost use Rattle.typed_rules.specs.World.{trace_after, world};
 ghost use Rattle.fw_law_reply.specs.Laws.{AcceptsAnswers, LetsDownCertificates, SendsCertificates};
 
 /// A run that didn't fail is the trace of a list of events without lies.

@@ -10,6 +10,6 @@ mod number;
 
 pub use bytes::Bytes;
 pub use items::Items;
-pub use limits::{BODY_LEN, LONGEST_TEXT, ROW_LEN, SIGNATURE_LEN};
+pub use limits::{BODY_LEN, LONGEST_FRAME, LONGEST_TEXT, ROW_LEN, SIGNATURE_LEN};
 pub use memory::Memory;
 pub use newest::Newest;

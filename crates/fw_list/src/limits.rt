@@ -11,3 +11,6 @@ pub const SIGNATURE_LEN: usize = 8192;
 
 /// The digests of a slot's values in the directory: 512 of 32 bytes.
 pub const ROW_LEN: usize = 16384;
+
+/// The longest frame.
+pub const LONGEST_FRAME: usize = 33_554_432;

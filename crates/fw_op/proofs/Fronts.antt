@@ -1,23 +1,12 @@
 -- Lists with one length before others.
-use Rattle.std.proofs.Common.{◌≡◌, ℕ, ◌<◌, ◌^◌, List, [], ◌∷◌, ◌++◌, length, refl, sym, ap, ◌∙◌, arith, append_assoc, true, nat_le}
+use Rattle.std.proofs.Common.{◌≡◌, ℕ, ◌<◌, ◌^◌, List, ◌∷◌, ◌++◌, length, refl, sym, ap, ◌∙◌, arith, append_assoc, true, nat_le}
 use Rattle.std.proofs.lemmas.Bool.{and_parts, leb-true}
 use Rattle.std.proofs.lemmas.Nat.{from_be_bytes-to_be_bytes_2}
 use Rattle.std.specs.List.{list_all}
 use Rattle.fw_list.specs.Numbers.{within}
 use Rattle.fw_op.specs.Keys.{is_value_byte, is_value, key_bytes, value_bytes}
 use Rattle.std.specs.Int.{w16, to_be_bytes, from_be_bytes}
-
--- fronts of one length are one, and so is what follows
-pub same_front : (a b r s : List ℕ) → length a ≡ length b → a ++ r ≡ b ++ s → (a ≡ b) × (r ≡ s)
-same_front [] [] r s same e = (refl, e)
-same_front [] (y ∷ b) r s same e = absurd (omega arith)
-same_front (x ∷ a) [] r s same e = absurd (omega arith)
-same_front (x ∷ a) (y ∷ b) r s same e =
-    let first : x ≡ y = cc in
-    let later : a ++ r ≡ b ++ s = cc in
-    let rest = same_front a b r s (omega arith) later in
-    let whole : x ∷ a ≡ y ∷ b = cc in
-    (whole, rest.1)
+use Rattle.fw_wire.proofs.Fronts.{same_front}
 
 -- numbers of two bytes
 pub same_double : (m n : ℕ) (r s : List ℕ) → m < 2 ^ 16 → n < 2 ^ 16 → to_be_bytes w16 m ++ r ≡ to_be_bytes w16 n ++ s → (m ≡ n) × (r ≡ s)

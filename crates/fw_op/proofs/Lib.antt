@@ -9,5 +9,6 @@ pub mod OpSentences
 pub mod ReplySentences
 pub mod OneOp
 pub mod OneReply
+pub mod Reading
 pub mod OneSpelling
 pub mod Lengths

@@ -6,7 +6,7 @@ use Rattle.std.proofs.lemmas.List.Folds.{list_all-append}
 use Rattle.std.specs.List.{list_all, flat_map}
 use Rattle.fw_op.specs.declared.reply.Name.{Name}
 use Rattle.fw_op.specs.Replies.{name_bytes, name_fits, AreNames}
-use Rattle.fw_op.proofs.Fronts.{same_front}
+use Rattle.fw_wire.proofs.Fronts.{same_front}
 
 -- names that begin bytes are one
 same_name : (a b : Name) (r s : List ℕ) → name_bytes a ++ r ≡ name_bytes b ++ s → (a ≡ b) × (r ≡ s)

@@ -4,3 +4,4 @@ pub mod Words
 pub mod Ops
 pub mod Parts
 pub mod Replies
+pub mod Reading

@@ -3,6 +3,7 @@
 ghost use Rattle.std.specs.Prelude.{◌≡◌, ◌≢◌, ◌≤◌, ◌++◌, [], length, Some, IfOk, OnOk, OnErr, IfSome, IfNone, IsTrue};
 ghost use Rattle.fw_list.specs.declared.limits.TheConstants.{LONGEST_TEXT};
 ghost use Rattle.fw_op.specs.Ops.{op_words, op_text, op_bytes, op_fits, is_keyed, IsOpText, IsOpBytes, AreOfKeyedOp, IsKeyedText, AreOfKeyed};
+ghost use Rattle.fw_op.specs.Reading.{op_in};
 
 use crate::encoding::{add_key, add_owner, add_value};
 use crate::op_bytes::op_in;
@@ -96,6 +97,7 @@ impl Op {
     pub fn read_bytes(alloc: Global, bytes: &[u8]) -> Result<Option<Op>, Memory>
         ensures found { IfOk result (λ found. IfSome found (λ op. IsOpBytes bytes.now op)) }
         ensures each { IfOk result (λ found. (op : Op) → IsOpBytes bytes.now op → found ≡ Some op) }
+        ensures value { IfOk result (λ found. found ≡ op_in bytes.now) }
         ensures memory { OnErr result (AreOfKeyed bytes.now) }
     {
         op_in(alloc, bytes)

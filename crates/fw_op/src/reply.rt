@@ -3,6 +3,7 @@
 ghost use Rattle.std.specs.Prelude.{◌≡◌, ◌≢◌, ◌≤◌, ◌++◌, List, [], length, Some, IfOk, OnOk, OnErr, IfSome, IfNone, IsTrue};
 ghost use Rattle.fw_list.specs.declared.limits.TheConstants.{LONGEST_TEXT};
 ghost use Rattle.fw_op.specs.Replies.{reply_words, reply_text, reply_bytes, reply_fits, has_bytes, is_telling, IsReplyText, IsReplyBytes, AreOfTellingReply, IsTellingText, AreOfTelling};
+ghost use Rattle.fw_op.specs.Reading.{reply_in};
 
 use crate::encoding::{add_all_names, add_value};
 use crate::reply_bytes::reply_in;
@@ -115,6 +116,7 @@ impl Reply {
     pub fn read_bytes(alloc: Global, bytes: &[u8]) -> Result<Option<Reply>, Memory>
         ensures found { IfOk result (λ found. IfSome found (λ reply. IsReplyBytes bytes.now reply)) }
         ensures each { IfOk result (λ found. (reply : Reply) → IsReplyBytes bytes.now reply → found ≡ Some reply) }
+        ensures value { IfOk result (λ found. found ≡ reply_in bytes.now) }
         ensures memory { OnErr result (AreOfTelling bytes.now) }
     {
         reply_in(alloc, bytes)

@@ -1,5 +1,4 @@
 -- The files of lemmas.
-pub mod Reading
 pub mod Finding
 pub mod Lists
 pub mod Rising

@@ -8,7 +8,8 @@ use Rattle.std.proofs.lemmas.List.Concat.{flat_map-append}
 use Rattle.std.proofs.lemmas.List.Folds.{list_all-append}
 use Rattle.fw_op.specs.declared.start.Start.{Start}
 use Rattle.fw_record.specs.Records.{start_bytes, start_fits}
-use Rattle.fw_record.specs.Reading.{Finds, BeginsWithStart}
+use Rattle.fw_wire.specs.Reading.{FindsWhere}
+use Rattle.fw_record.specs.Reading.{BeginsWithStart}
 
 -- so many items that fit
 abbrev pub all_fit : {A : Type 0} → (A → Bool) → ℕ → List A → Bool
@@ -32,7 +33,7 @@ regroup items x more = append_assoc items (x ∷ []) more
 
 goes_on : {A : Type 0} (text : A → List ℕ) (fits : A → Bool) (all items : List A) (left left' rest : List ℕ) (x : A)
     → (more : List A) → all ≡ items ++ more → IsTrue (list_all fits more) → left ≡ flat_map text more ++ rest
-    → length items < length all → Finds text fits left (Some x) left' → Rest text fits all (items ++ x ∷ []) left' rest
+    → length items < length all → FindsWhere text fits left (Some x) left' → Rest text fits all (items ++ x ∷ []) left' rest
 goes_on text fits all items left left' rest x [] a r e lt p = absurd (omega (arith, ap length a, length-append items []))
 goes_on text fits all items left left' rest x (y ∷ more) a r e lt p =
     let parts = and_parts (fits y) (list_all fits more) r in
@@ -47,7 +48,7 @@ goes_on text fits all items left left' rest x (y ∷ more) a r e lt p =
 
 stops : {A : Type 0} (text : A → List ℕ) (fits : A → Bool) (all items : List A) (left left' rest : List ℕ)
     → (more : List A) → all ≡ items ++ more → IsTrue (list_all fits more) → left ≡ flat_map text more ++ rest
-    → length items < length all → Finds text fits left None left' → ⊥
+    → length items < length all → FindsWhere text fits left None left' → ⊥
 stops text fits all items left left' rest [] a r e lt p = omega (arith, ap length a, length-append items [])
 stops text fits all items left left' rest (y ∷ more) a r e lt p =
     let parts = and_parts (fits y) (list_all fits more) r in
@@ -56,7 +57,7 @@ stops text fits all items left left' rest (y ∷ more) a r e lt p =
 
 -- one more item
 pub one_more : {A : Type 0} {text : A → List ℕ} {fits : A → Bool} {bytes : List ℕ} {items : List A} {left left' : List ℕ} {x : A}
-    → SoFar text fits bytes items left → Finds text fits left (Some x) left' → SoFar text fits bytes (items ++ x ∷ []) left'
+    → SoFar text fits bytes items left → FindsWhere text fits left (Some x) left' → SoFar text fits bytes (items ++ x ∷ []) left'
 one_more {text = text} {fits = fits} {bytes = bytes} {items = items} {left = left} {left' = left'} {x = x} s p = record {
   read = s.read ∙ (ap (λ (m : List ℕ). flat_map text items ++ m) p.read.0 ∙ (sym (append_assoc (flat_map text items) (text x) left')
       ∙ ap (λ (m : List ℕ). m ++ left') (sym (flat_map-append text items (x ∷ []) ∙ ap (λ (m : List ℕ). flat_map text items ++ m) (append-nil (text x))))));
@@ -69,7 +70,7 @@ one_more {text = text} {fits = fits} {bytes = bytes} {items = items} {left = lef
 
 -- no next item: no list
 pub no_item : {A : Type 0} {text : A → List ℕ} {fits : A → Bool} {count : ℕ} {bytes : List ℕ} {items : List A} {left left' new : List ℕ}
-    → SoFar text fits bytes items left → length items < count → Finds text fits left None left' → Finds (flat_map text) (all_fit fits count) bytes None new
+    → SoFar text fits bytes items left → length items < count → FindsWhere text fits left None left' → FindsWhere (flat_map text) (all_fit fits count) bytes None new
 no_item {text = text} {fits = fits} {count = count} {items = items} {left = left} {left' = left'} s lt p = record {
   read = tt;
   each = λ all rest h e.
@@ -85,7 +86,7 @@ nothing_more text all items left rest (y ∷ more) a e len = absurd (omega (arit
 
 -- all items
 pub all_read : {A : Type 0} {text : A → List ℕ} {fits : A → Bool} {count : ℕ} {bytes : List ℕ} {items : List A} {left : List ℕ}
-    → SoFar text fits bytes items left → length items ≡ count → Finds (flat_map text) (all_fit fits count) bytes (Some items) left
+    → SoFar text fits bytes items left → length items ≡ count → FindsWhere (flat_map text) (all_fit fits count) bytes (Some items) left
 all_read {text = text} {fits = fits} {count = count} {items = items} {left = left} s len = record {
   read = (s.read, and_from _ _ (eq-eqb (length items) count len) s.fitting);
   each = λ all rest h e.
@@ -109,7 +110,7 @@ first_of clients bytes left (x ∷ items) e h b = record {
 
 -- a record was found behind those that were read
 pub begins : {clients : ℕ} {bytes : List ℕ} {items : List Start} {left next : List ℕ} {x : Start}
-    → SoFar start_bytes (start_fits clients) bytes items left → Finds start_bytes (start_fits clients) left (Some x) next → BeginsWithStart clients bytes
+    → SoFar start_bytes (start_fits clients) bytes items left → FindsWhere start_bytes (start_fits clients) left (Some x) next → BeginsWithStart clients bytes
 begins {clients = clients} {bytes = bytes} {items = items} {left = left} {next = next} {x = x} s p =
     first_of clients bytes left items s.read s.fitting (record { start = x; rest = next; is = p.read.0; fitting = p.read.1 })
 

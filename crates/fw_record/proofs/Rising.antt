@@ -5,7 +5,7 @@ use Rattle.std.proofs.lemmas.Bool.{and_parts, and_from, ltb-true, leb-true, lt-l
 use Rattle.std.proofs.lemmas.List.{append-nil, map_push}
 use Rattle.fw_op.specs.Words.{client_word}
 use Rattle.fw_op.proofs.OneOp.{named, named_client}
-use Rattle.fw_record.specs.Records.{ascending}
+use Rattle.fw_list.specs.Numbers.{ascending}
 use Rattle.fw_record.specs.Parts.{rising, AreReaders}
 
 rising_after : (clients c : ℕ) (cs : List ℕ) → list_all (λ c. nat_lt c clients) cs ≡ true → ascending (c ∷ cs) ≡ true → rising clients (c + 1) cs ≡ true

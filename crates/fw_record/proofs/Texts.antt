@@ -6,7 +6,8 @@ use Rattle.fw_op.specs.declared.start.Start.{Start}
 use Rattle.fw_op.specs.Keys.{is_key, is_value}
 use Rattle.fw_op.specs.Words.{client_word, sentence, words_of}
 use Rattle.fw_op.proofs.Sentences.{is_whole, sentence_words, words_sentence, whole_client, whole_key, whole_value}
-use Rattle.fw_record.specs.Records.{ascending, start_words, start_text, start_fits}
+use Rattle.fw_list.specs.Numbers.{ascending}
+use Rattle.fw_record.specs.Records.{start_words, start_text, start_fits}
 use Rattle.fw_record.specs.Parts.{rising, AreReaders, IsStart}
 use Rattle.fw_record.proofs.Rising.{rising_from, rising_to}
 

@@ -1,7 +1,7 @@
 -- The records that a service starts with: how each is spelled, in words and in bytes, and which lists of them there may be.
-use Rattle.std.specs.Prelude.{ℕ, Bool, true, ◌&&◌, nat_lt, nat_le, List, [], ◌∷◌, ◌++◌, length, map}
+use Rattle.std.specs.Prelude.{ℕ, Bool, ◌&&◌, nat_lt, nat_le, List, ◌∷◌, ◌++◌, length, map}
 use Rattle.std.specs.List.{list_all, flat_map}
-use Rattle.fw_list.specs.Numbers.{u32}
+use Rattle.fw_list.specs.Numbers.{u32, ascending}
 use Rattle.fw_op.specs.declared.start.Start.{Start}
 use Rattle.fw_op.specs.Keys.{is_key, is_value, key_bytes, value_bytes}
 use Rattle.fw_op.specs.Words.{client_word, sentence}
@@ -23,12 +23,6 @@ start_bytes s = s.owner ∷ (key_bytes s.key ++ value_bytes s.value ++ length s.
 -- records after their count
 abbrev pub starts_bytes : List Start → List ℕ
 starts_bytes starts = u32 (length starts) ++ flat_map start_bytes starts
-
--- each number is above the one before it
-abbrev pub ascending : List ℕ → Bool
-ascending [] = true
-ascending (x ∷ []) = true
-ascending (x ∷ y ∷ xs) = nat_lt x y && ascending (y ∷ xs)
 
 -- the record is one where there are this many clients: its owner and its readers, who ascend, are such clients
 abbrev pub start_fits : ℕ → Start → Bool

@@ -6,7 +6,8 @@ ghost use Rattle.fw_list.specs.Numbers.{u32};
 ghost use Rattle.fw_op.specs.declared.start.Start.{Start};
 ghost use Rattle.fw_record.specs.declared.limits.TheConstants.{MOST_RECORDS};
 ghost use Rattle.fw_record.specs.Records.{start_bytes, start_fits, starts_bytes, starts_fit};
-ghost use Rattle.fw_record.specs.Reading.{Finds, BeginsWithStart, BeginsWithStarts};
+ghost use Rattle.fw_wire.specs.Reading.{FindsWhere};
+ghost use Rattle.fw_record.specs.Reading.{BeginsWithStart, BeginsWithStarts};
 
 use crate::MOST_RECORDS;
 use crate::fields::parts_in;
@@ -18,7 +19,7 @@ use std::alloc::Global;
 
 /// How many records there are.
 fn count_in(reader: &mut Reader<'_>) -> Option<u32>
-    ensures { Finds u32 (λ n. nat_le n MOST_RECORDS) reader.old result reader.new }
+    ensures { FindsWhere u32 (λ n. nat_le n MOST_RECORDS) reader.old result reader.new }
 {
     let count = reader.u32()?;
     if count as usize <= MOST_RECORDS {
@@ -35,7 +36,7 @@ fn some_starts(
     reader: &mut Reader<'_>,
     count: u32,
 ) -> Result<Option<Starts>, Memory>
-    ensures found { IfOk result (λ found. Finds (flat_map start_bytes) (λ starts. nat_eq (length starts) count && list_all (start_fits clients) starts) reader.old found reader.new) }
+    ensures found { IfOk result (λ found. FindsWhere (flat_map start_bytes) (λ starts. nat_eq (length starts) count && list_all (start_fits clients) starts) reader.old found reader.new) }
     ensures memory { OnErr result (BeginsWithStart clients reader.old) }
 {
     let mut starts = Starts::new(alloc);

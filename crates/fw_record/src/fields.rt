@@ -4,7 +4,7 @@ ghost use Rattle.std.specs.Prelude.{◌≡◌, List, ℕ, nat_lt, IsTrue, option
 ghost use Rattle.fw_op.specs.Keys.{is_key, is_value, key_bytes, value_bytes};
 ghost use Rattle.fw_record.specs.Records.{start_bytes, start_fits};
 ghost use Rattle.fw_record.specs.Parts.{plain_start, owner_bytes, readers_bytes, rising};
-ghost use Rattle.fw_record.specs.Reading.{Finds};
+ghost use Rattle.fw_wire.specs.Reading.{FindsWhere};
 
 use crate::parts::StartParts;
 use fw_op::{is_key, is_value};
@@ -12,7 +12,7 @@ use fw_wire::Reader;
 
 /// A client below so many.
 fn owner_in(reader: &mut Reader<'_>, clients: u32) -> Option<u32>
-    ensures { Finds owner_bytes (λ c. nat_lt c clients) reader.old result reader.new }
+    ensures { FindsWhere owner_bytes (λ c. nat_lt c clients) reader.old result reader.new }
 {
     let owner = u32::from(reader.u8()?);
     if owner < clients { Some(owner) } else { None }
@@ -20,7 +20,7 @@ fn owner_in(reader: &mut Reader<'_>, clients: u32) -> Option<u32>
 
 /// A key after its length.
 fn key_in<'a>(reader: &mut Reader<'a>) -> Option<&'a [u8]>
-    ensures { Finds key_bytes is_key reader.old (option_map (λ k. k.now) result) reader.new }
+    ensures { FindsWhere key_bytes is_key reader.old (option_map (λ k. k.now) result) reader.new }
 {
     let len = reader.u8()?;
     let key = reader.fixed(len as usize)?;
@@ -30,7 +30,7 @@ fn key_in<'a>(reader: &mut Reader<'a>) -> Option<&'a [u8]>
 /// A value after its length.
 #[tactic(auto, unfolding(fw_list::specs::Numbers::u16))]
 fn value_in<'a>(reader: &mut Reader<'a>) -> Option<&'a [u8]>
-    ensures { Finds value_bytes is_value reader.old (option_map (λ v. v.now) result) reader.new }
+    ensures { FindsWhere value_bytes is_value reader.old (option_map (λ v. v.now) result) reader.new }
 {
     let len = reader.u16()?;
     let value = reader.fixed(len as usize)?;
@@ -57,7 +57,7 @@ fn are_readers(readers: &[u8], clients: u32) -> bool
 
 /// Clients after their count, ascending, below so many.
 fn readers_in<'a>(reader: &mut Reader<'a>, clients: u32) -> Option<&'a [u8]>
-    ensures { Finds readers_bytes (rising clients 0) reader.old (option_map (λ cs. cs.now) result) reader.new }
+    ensures { FindsWhere readers_bytes (rising clients 0) reader.old (option_map (λ cs. cs.now) result) reader.new }
 {
     let count = reader.u8()?;
     let readers = reader.fixed(count as usize)?;
@@ -70,7 +70,7 @@ fn readers_in<'a>(reader: &mut Reader<'a>, clients: u32) -> Option<&'a [u8]>
 
 /// A record, where there are so many clients.
 pub(crate) fn parts_in<'a>(reader: &mut Reader<'a>, clients: u32) -> Option<StartParts<'a>>
-    ensures { Finds start_bytes (start_fits clients) reader.old (option_map plain_start result) reader.new }
+    ensures { FindsWhere start_bytes (start_fits clients) reader.old (option_map plain_start result) reader.new }
 {
     let Some(owner) = owner_in(reader, clients) else {
         return None;

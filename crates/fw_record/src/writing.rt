@@ -3,7 +3,8 @@
 ghost use Rattle.std.specs.Prelude.{◌≡◌, ◌++◌, nat_lt, OnOk, IsTrue};
 ghost use Rattle.std.specs.List.{list_all, flat_map};
 ghost use Rattle.fw_op.specs.Keys.{is_key, is_value, key_bytes, value_bytes};
-ghost use Rattle.fw_record.specs.Records.{ascending, start_bytes, start_fits, starts_bytes, starts_fit};
+ghost use Rattle.fw_list.specs.Numbers.{ascending};
+ghost use Rattle.fw_record.specs.Records.{start_bytes, start_fits, starts_bytes, starts_fit};
 ghost use Rattle.fw_record.specs.Parts.{readers_bytes};
 
 use fw_list::Memory;

@@ -1,2 +1,5 @@
--- The definitions that the clauses cite.
+-- The files of definitions.
 pub mod Reference
+pub mod Bodies
+pub mod Ranges
+pub mod Certificates

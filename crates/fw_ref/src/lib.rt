@@ -1,9 +1,11 @@
-//! The service: requests, a store that answers each stamp of a client once (for the clients from 0 to 7), and the reference that
-//! answers one list.
+//! The service: a store behind sealed bodies that answers each stamp of a client once, number after number.
 #![tactic(auto)]
 
-mod asked;
+mod bodies;
+mod certificates;
 mod replica;
+mod service;
 
-pub use asked::{Answer, Asked};
-pub use replica::{Last, Replica, reference};
+pub use certificates::{Certs, permitted};
+pub use replica::{Answer, Keys, Last, Replica};
+pub use service::Service;

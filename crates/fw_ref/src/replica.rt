@@ -1,18 +1,36 @@
-//! The replica, and the reference.
+//! The replica.
 
-ghost use Rattle.std.specs.Prelude.{◌≡◌, ◌++◌, List, map, replicate, length, Some, slice_index_or, slice_set, IfOk, OnOk, OnErr, IsTrue};
-ghost use Rattle.fw_ref.specs.Reference.{Reference, Opened, opened, unasked, at_start, executed, step, answers, execution_wants};
-ghost use Rattle.fw_op.specs.Replies.{is_telling};
+ghost use Rattle.std.specs.Prelude.{◌≡◌, ◌<◌, ◌≤◌, ◌+◌, ◌^◌, length, replicate, Some, IfSome, IfOk, OnOk, IsTrue};
+ghost use Rattle.std.specs.List.{list_all};
+ghost use Rattle.fw_base.specs.declared.limits.TheConstants.{MOST_NUMBERS};
+ghost use Rattle.fw_op.specs.Ops.{op_fits};
+ghost use Rattle.fw_op.specs.Replies.{reply_fits, has_bytes};
+ghost use Rattle.fw_frame.specs.Plain.{plain_request, plain_entry};
+ghost use Rattle.fw_ref.specs.Reference.{answered, executed, step, unasked};
+ghost use Rattle.fw_ref.specs.Bodies.{request_opened, told, next_answer, after_entry};
+ghost use Rattle.fw_ref.specs.Ranges.{is_stored, IsAskedBy, AreAskedBy};
 
-use crate::{Answer, Asked};
-use fw_list::{Items, Memory};
+use crate::Service;
+use crate::bodies::{body_of, op_of};
+use fw_frame::{Entry, Request};
+use fw_list::{BODY_LEN, Items, Memory};
 use fw_op::{Op, Reply};
-use fw_store::Store;
+use fw_seal::{Body, BodyKey};
 use std::alloc::Global;
 use std::marker::Model;
 
-/// How many clients a replica keeps the last reply of: those from 0 to 7.
-const CLIENTS: usize = 8;
+/// The keys of the clients' bodies, by client.
+pub type Keys = Items<BodyKey>;
+
+/// The reply to an entry of the list, and its sealed body. Of the null entry it is the reply to nothing, for client 0 and stamp 0,
+/// with a body of zeros.
+#[derive(Drop)]
+pub struct Answer {
+    pub client: u32,
+    pub stamp: u32,
+    pub reply: Reply,
+    pub body: Body,
+}
 
 /// The last stamp of a client that was answered, and the reply to it.
 #[derive(Debug, Drop)]
@@ -21,136 +39,153 @@ pub struct Last {
     pub reply: Reply,
 }
 
-/// A store that answers requests, each stamp of a client once, for the clients from 0 to 7. What another client asks is
-/// executed each time.
-#[derive(Debug, Drop)]
-pub struct Replica {
+/// A service that answers the entries of one list, number after number, each stamp of a client once, for the clients from 0 to 7.
+#[derive(Drop)]
+pub struct Replica<S: Service> {
     alloc: Global,
-    store: Store,
-    last: Vec<Last>,
+    service: S,
+    last: [Last; 8],
+    done: u32,
 }
 
-impl Model for Replica {
-    ghost use Rattle.fw_ref.specs.Reference.{Reference};
+impl<S: Service> Model for Replica<S> {
+    ghost use Rattle.fw_ref.specs.Bodies.{PlainReplica};
+    ghost use Rattle.fw_ref.specs.Ranges.{AreKept};
 
-    ghost Value = { Reference };
+    ghost Value = { PlainReplica };
 
-    ghost view = { λ r. record { records = r.store; last = r.last.items } };
+    ghost view = { λ r. record { done = r.done; reference = record { records = S.Service.records r.service; last = r.last } } };
+
+    ghost invariant = { λ r. AreKept (S.Service.records r.service) r.last };
 }
 
-impl Replica {
-    /// A replica without records, which has answered nothing.
-    pub fn new(alloc: Global) -> Result<Self, Memory>
-        ensures { IfOk result (λ replica. replica ≡ at_start) }
+impl<S: Service> Replica<S> {
+    /// A replica of this service, which has answered nothing.
+    pub fn new(alloc: Global, service: S) -> Replica<S>
+        requires { IsTrue (list_all is_stored (S.Service.records service)) }
+        ensures { result ≡ record { done = 0; reference = record { records = S.Service.records service; last = replicate 8 unasked } } }
     {
-        Ok(Replica {
+        Replica {
             alloc,
-            store: Store::new(alloc, &[])?,
-            last: none_asked(alloc)?,
+            service,
+            last: [
+                none(),
+                none(),
+                none(),
+                none(),
+                none(),
+                none(),
+                none(),
+                none(),
+            ],
+            done: 0,
+        }
+    }
+
+    /// How many numbers it has answered.
+    pub fn done(&self) -> u32
+        ensures { result ≡ self.now.done }
+    {
+        self.done
+    }
+
+    /// Answers the entry of the next number. Of a client the last stamp gets the reply that was kept, and an older one `old`:
+    /// neither is executed again. A body that doesn't open to an operation is replied `bad`.
+    /// After want of memory nothing is said of the replica, and its holder uses it no more.
+    pub fn execute(&mut self, keys: &Keys, number: u32, entry: &Entry<'_>) -> Result<Answer, Memory>
+        requires next { number ≡ self.old.done + 1 }
+        requires most { number ≤ MOST_NUMBERS }
+        requires keys { length keys.now ≤ 8 }
+        requires asked { AreAskedBy (length keys.now) (plain_entry entry.now) }
+        requires few { length self.old.reference.records < 2 ^ 31 }
+        ensures answer { IfOk result (λ answer. answer ≡ next_answer keys.now self.old (plain_entry entry.now)) }
+        ensures after { OnOk result (self.new ≡ after_entry keys.now self.old (plain_entry entry.now)) }
+    {
+        let answer = match entry {
+            Entry::Null => Answer {
+                client: 0,
+                stamp: 0,
+                reply: Reply::Null,
+                body: Body {
+                    bytes: [0; BODY_LEN],
+                },
+            },
+            Entry::Request(request) => self.answer(keys, number, request)?,
+        };
+        self.done = number;
+        Ok(answer)
+    }
+
+    /// Answers a request.
+    fn answer(&mut self, keys: &Keys, number: u32, request: &Request<'_>) -> Result<Answer, Memory>
+        requires number { number < 2 ^ 31 }
+        requires keys { length keys.now ≤ 8 }
+        requires asked { IsAskedBy (length keys.now) (plain_request request.now) }
+        requires few { length self.old.reference.records < 2 ^ 31 }
+        ensures answer { IfOk result (λ answer. answer ≡ told keys.now number (step self.old.reference (Some (request_opened keys.now (plain_request request.now)))).0) }
+        ensures after { OnOk result (self.new ≡ record { done = self.old.done; reference = (step self.old.reference (Some (request_opened keys.now (plain_request request.now)))).1 }) }
+    {
+        let key = &keys.items()[request.client as usize];
+        let op = op_of(self.alloc, key, request)?;
+        let reply = self.reply_to(request.client, request.stamp, &op)?;
+        let body = body_of(self.alloc, key, request.client, number, &reply)?;
+        Ok(Answer {
+            client: request.client,
+            stamp: request.stamp,
+            reply,
+            body,
         })
     }
 
-    /// Executes an operation that a client asks under a stamp, and gives the reply. Of a client from 0 to 7 the last stamp gets
-    /// the reply that was kept, and an older one `old`: neither is executed again.
-    /// Memory is wanted only to tell a value or names, or where the store may want it; never for an older stamp.
-    /// After want of memory nothing is said of the replica, and its holder uses it no more.
-    pub fn execute(&mut self, client: u32, stamp: u32, op: &Op) -> Result<Reply, Memory>
-        ensures reply { IfOk result (λ reply. reply ≡ (executed self.old (record { client = client; stamp = stamp; op = Some op.now })).0) }
-        ensures after { OnOk result (self.new ≡ (executed self.old (record { client = client; stamp = stamp; op = Some op.now })).1) }
-        ensures memory { OnErr result (IsTrue (execution_wants self.old client stamp op.now)) }
+    /// The reply to what a client asks under a stamp: an operation, or something that is none.
+    fn reply_to(&mut self, client: u32, stamp: u32, op: &Option<Op>) -> Result<Reply, Memory>
+        requires client { client < 8 }
+        requires stamp { 1 ≤ stamp }
+        requires op { IfSome op.now (λ op. IsTrue (op_fits 8 op)) }
+        requires few { length self.old.reference.records < 2 ^ 31 }
+        ensures reply { IfOk result (λ reply. reply ≡ (executed self.old.reference (record { client = client; stamp = stamp; op = op.now })).0) }
+        ensures after { OnOk result (self.new ≡ record { done = self.old.done; reference = (executed self.old.reference (record { client = client; stamp = stamp; op = op.now })).1 }) }
+        ensures fits { IfOk result (λ reply. IsTrue (reply_fits 8 reply)) }
+        ensures said { IfOk result (λ reply. IsTrue (has_bytes reply)) }
     {
-        let seen = last_stamp(self.last.as_slice(), client);
-        if stamp < seen {
+        let seen = &self.last[client as usize];
+        if stamp < seen.stamp {
             return Ok(Reply::Old);
         }
-        if stamp == seen {
-            return last_reply(self.alloc, self.last.as_slice(), client);
+        if stamp == seen.stamp {
+            return seen.reply.copy(self.alloc);
         }
-        let reply = self.store.apply(client, op)?;
-        renew(self.alloc, &mut self.last, client, stamp, &reply)?;
+        let reply = outcome(&mut self.service, client, op)?;
+        let kept = reply.copy(self.alloc)?;
+        self.last[client as usize] = Last { stamp, reply: kept };
         Ok(reply)
     }
+}
 
-    /// Executes a request, and gives the answer to it.
-    /// After want of memory nothing is said of the replica, and its holder uses it no more.
-    pub fn answer(&mut self, asked: &Asked) -> Result<Answer, Memory>
-        ensures answer { IfOk result (λ answer. answer ≡ (step self.old (Some (opened asked.now))).0) }
-        ensures after { OnOk result (self.new ≡ (step self.old (Some (opened asked.now))).1) }
-        ensures memory { OnErr result (IsTrue (execution_wants self.old asked.now.client asked.now.stamp asked.now.op)) }
-    {
-        let reply = self.execute(asked.client, asked.stamp, &asked.op)?;
-        Ok(Answer {
-            client: asked.client,
-            stamp: asked.stamp,
-            reply,
-        })
+/// The reply to a client's operation, or to what is none.
+fn outcome<S: Service>(service: &mut S, client: u32, op: &Option<Op>) -> Result<Reply, Memory>
+    requires client { client < 8 }
+    requires op { IfSome op.now (λ op. IsTrue (op_fits 8 op)) }
+    requires few { length (S.Service.records service.old) < 2 ^ 31 }
+    requires stored { IsTrue (list_all is_stored (S.Service.records service.old)) }
+    ensures reply { IfOk result (λ reply. reply ≡ (answered client op.now (S.Service.records service.old)).0) }
+    ensures after { OnOk result (S.Service.records service.new ≡ (answered client op.now (S.Service.records service.old)).1) }
+    ensures stored { IsTrue (list_all is_stored (S.Service.records service.new)) }
+    ensures fits { IfOk result (λ reply. IsTrue (reply_fits 8 reply)) }
+    ensures said { IfOk result (λ reply. IsTrue (has_bytes reply)) }
+{
+    match op {
+        Some(op) => service.apply(client, op),
+        None => Ok(Reply::Bad),
     }
 }
 
-/// The service in its plain form: one replica that executes a list of requests from the start, and the answers in order.
-pub fn reference(alloc: Global, list: &[Asked]) -> Result<Items<Answer>, Memory>
-    ensures { IfOk result (λ all. all ≡ answers at_start (map (λ a. Some (opened a)) list.now)) }
+/// That a client has asked nothing.
+fn none() -> Last
+    ensures { result ≡ unasked }
 {
-    let mut replica = Replica::new(alloc)?;
-    let mut all = Items::new(alloc);
-    for asked in list {
-        all.push(replica.answer(asked)?)?;
+    Last {
+        stamp: 0,
+        reply: Reply::Null,
     }
-    Ok(all)
-}
-
-/// For each client that it has asked nothing.
-fn none_asked(alloc: Global) -> Result<Vec<Last>, Memory>
-    ensures { IfOk result (λ last. last.items ≡ replicate 8 unasked) }
-{
-    let mut last = Vec::new(alloc);
-    for _ in 0..CLIENTS {
-        last.push(Last {
-            stamp: 0,
-            reply: Reply::Null,
-        })?;
-    }
-    Ok(last)
-}
-
-/// The last stamp of a client that was answered, or 0.
-fn last_stamp(last: &[Last], client: u32) -> u32
-    ensures { result ≡ (slice_index_or last.now client unasked).stamp }
-{
-    match last.get(client as usize) {
-        None => 0,
-        Some(last) => last.stamp,
-    }
-}
-
-/// The reply to the last stamp of a client.
-fn last_reply(alloc: Global, last: &[Last], client: u32) -> Result<Reply, Memory>
-    ensures reply { IfOk result (λ reply. reply ≡ (slice_index_or last.now client unasked).reply) }
-    ensures memory { OnErr result (IsTrue (is_telling (slice_index_or last.now client unasked).reply)) }
-{
-    match last.get(client as usize) {
-        None => Ok(Reply::Null),
-        Some(last) => last.reply.copy(alloc),
-    }
-}
-
-/// Keeps the reply to a client's new stamp.
-fn renew(
-    alloc: Global,
-    last: &mut Vec<Last>,
-    client: u32,
-    stamp: u32,
-    reply: &Reply,
-) -> Result<(), Memory>
-    ensures ok { OnOk result (last.new.items ≡ slice_set last.old.items client (record { stamp = stamp; reply = reply.now })) }
-    ensures memory { OnErr result (IsTrue (is_telling reply.now)) }
-{
-    let kept = Last {
-        stamp,
-        reply: reply.copy(alloc)?,
-    };
-    if (client as usize) < last.len() {
-        last[client as usize] = kept;
-    }
-    Ok(())
 }

@@ -1,5 +1,10 @@
 -- The files of definitions.
+pub mod Signing
+pub mod Means
+pub mod Choices
 pub mod Agree
-pub mod Speeches
+pub mod Roles
+pub mod Deployed
 pub mod World
-pub mod Outcome
+pub mod Toy
+pub mod Rows

@@ -152,8 +152,8 @@ pub(crate) fn head_of(table: &Table) -> Result<Head<'_>, &str>
     if let Some(name) = field_fault(table) {
         return Err(name);
     }
-    match parts_of(table) {
-        Some(head) => Ok(head),
-        None => Err(""),
-    }
+    let Some(head) = parts_of(table) else {
+        unreachable!()
+    };
+    Ok(head)
 }

@@ -3,3 +3,4 @@ pub mod Bytes
 pub mod Words
 pub mod Blocks
 pub mod Bodies
+pub mod Opened

@@ -1,5 +1,5 @@
 -- Sealed bodies: the block of a text under a stream of ChaCha20, and the block's authentication code.
-use Rattle.std.specs.Prelude.{ℕ, zero, suc, ◌+◌, ◌-◌, ◌*◌, ◌≡◌, ◌≢◌, ◌≤◌, ◌<◌, ◌⊎◌, List, [], ◌∷◌, ◌++◌, map, length, take, drop, replicate, bit_xor, Any}
+use Rattle.std.specs.Prelude.{ℕ, zero, suc, ◌+◌, ◌-◌, ◌*◌, ◌≡◌, ◌≢◌, ◌≤◌, ◌<◌, ◌⊎◌, Bool, ◌&&◌, nat_le, List, [], ◌∷◌, ◌++◌, map, length, take, drop, replicate, bit_xor, bytes_eq, Any, Option, Some, None, if◌then◌else◌}
 use Rattle.std.specs.List.{zip}
 use Rattle.std.specs.Int.{w16, w32, to_be_bytes, from_be_bytes, to_le_bytes}
 use Rattle.rand_chacha.specs.ChaCha.{word_at, key_of}
@@ -55,6 +55,20 @@ pub record Opens (key : BodyKey) (way : Direction) (client number : ℕ) (body t
 -- the length of the text that a block names
 abbrev pub length_in : List ℕ → ℕ
 length_in block = from_be_bytes w16 (take 2 block)
+
+-- the text that a block names: as many of the bytes behind its length as that says
+abbrev pub text_in : List ℕ → List ℕ
+text_in block = take (length_in block) (drop 2 block)
+
+-- whether the body is that of this text, and the text short enough
+abbrev pub is_body_of : BodyKey → Direction → ℕ → ℕ → List ℕ → List ℕ → Bool
+is_body_of key way client number body text = nat_le (length text) LONGEST_TEXT && bytes_eq body (sealed key way client number text)
+
+-- the text that the body opens to, or none: the one named under its stream, where the body is that of this text
+unfoldable pub opened : BodyKey → Direction → ℕ → ℕ → List ℕ → Option (List ℕ)
+opened key way client number body =
+    let text = text_in (masked key way number (take 512 body)) in
+    if is_body_of key way client number body text then Some text else None
 
 -- the block is of no text: its length is too great, or some byte after the text isn't zero
 abbrev pub IsSpoiled : List ℕ → Type 0

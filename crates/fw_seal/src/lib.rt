@@ -2,9 +2,9 @@
 //! A body is a block of 512 bytes under a stream of ChaCha20 (RFC 8439), and its authentication code (HMAC of RFC 2104).
 #![tactic(auto)]
 
-ghost use Rattle.std.specs.Prelude.{◌≡◌, ◌≤◌, ◌<◌, ◌-◌, ◌^◌, ◌↔◌, List, ℕ, Some, length, take, drop, replicate, IfSome, IfNone, IsNone};
+ghost use Rattle.std.specs.Prelude.{◌≡◌, ◌≤◌, ◌<◌, ◌-◌, ◌^◌, ◌↔◌, List, ℕ, Some, length, take, drop, replicate, IfSome, IfNone, IsNone, option_map};
 ghost use Rattle.fw_list.specs.declared.limits.TheConstants.{LONGEST_TEXT};
-ghost use Rattle.fw_seal.specs.Seal.{sealed, Opens, IsRefused};
+ghost use Rattle.fw_seal.specs.Seal.{sealed, Opens, IsRefused, opened};
 
 mod block;
 mod masked;
@@ -48,6 +48,8 @@ pub fn unseal(
     ensures rest { IfSome result (λ len. drop len out.new ≡ replicate (LONGEST_TEXT - len) 0) }
     ensures only { (text : List ℕ) → Opens key.now way client number body.now.bytes text →
         (result ≡ Some (length text)) × (take (length text) out.new ≡ text) }
+
+    ensures value { opened key.now way client number body.now.bytes ≡ option_map (λ len. take len out.new) result }
 
     ensures none { IfNone result
         ((text : List ℕ) → ¬ Opens key.now way client number body.now.bytes text) }

@@ -9,7 +9,7 @@ use Rattle.fw_base.specs.declared.params.Params.{Params}
 use Rattle.fw_base.specs.declared.seat.Seat.{Seat}
 use Rattle.fw_op.specs.Words.{sentence, words_of}
 use Rattle.fw_op.proofs.Sentences.{sentence_words, words_sentence}
-use Rattle.fw_step.specs.declared.limits.TheConstants.{LONGEST_FRAME}
+use Rattle.fw_list.specs.declared.limits.TheConstants.{LONGEST_FRAME}
 use Rattle.fw_step.specs.declared.step.Lie.{Lie}
 use Rattle.fw_step.specs.declared.step.Lie.TheVariants as lies
 use Rattle.fw_step.specs.Parts.{are_frame_digits, AreBytesOf, IsLieOf}

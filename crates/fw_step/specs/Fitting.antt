@@ -8,7 +8,8 @@ use Rattle.fw_base.specs.declared.seat.Seat.TheVariants.{Agree, Exec, Client}
 use Rattle.fw_base.specs.Seats.{fits, linked, seat_eq}
 use Rattle.fw_op.specs.Ops.{op_fits}
 use Rattle.fw_op.specs.Replies.{reply_fits, has_bytes}
-use Rattle.fw_step.specs.declared.limits.TheConstants.{LAST_FRAME, LONGEST_FRAME, MOST_FLUSHED}
+use Rattle.fw_list.specs.declared.limits.TheConstants.{LONGEST_FRAME}
+use Rattle.fw_step.specs.declared.limits.TheConstants.{LAST_FRAME, MOST_FLUSHED}
 use Rattle.fw_step.specs.declared.step.Step.{Step}
 use Rattle.fw_step.specs.declared.step.Step.TheVariants as steps
 use Rattle.fw_step.specs.declared.step.Lie.{Lie}

@@ -7,7 +7,7 @@ use Rattle.fw_base.specs.declared.params.Params.{Params}
 use Rattle.fw_base.specs.declared.seat.Seat.{Seat}
 use Rattle.fw_op.specs.declared.reply.Reply.{Reply}
 use Rattle.fw_op.specs.Replies.{reply_words, reply_fits, has_bytes}
-use Rattle.fw_step.specs.declared.limits.TheConstants.{LONGEST_FRAME}
+use Rattle.fw_list.specs.declared.limits.TheConstants.{LONGEST_FRAME}
 use Rattle.fw_step.specs.declared.step.Step.{Step}
 use Rattle.fw_step.specs.declared.step.Lie.{Lie}
 use Rattle.fw_step.specs.declared.step.LieOp.{LieOp}

@@ -4,11 +4,10 @@ ghost use Rattle.std.specs.Prelude.{◌≡◌, ◌≢◌, ℕ, List, length, Ok,
 ghost use Rattle.std.specs.List.{list_all};
 ghost use Rattle.hex.specs.Hex.{decode_of, is_hex_digit};
 ghost use Rattle.fw_list.specs.Numbers.{within};
-ghost use Rattle.fw_step.specs.declared.limits.TheConstants.{LONGEST_FRAME};
+ghost use Rattle.fw_list.specs.declared.limits.TheConstants.{LONGEST_FRAME};
 ghost use Rattle.fw_step.specs.Parts.{are_frame_digits, AreBytesOf};
 
-use crate::LONGEST_FRAME;
-use fw_list::{Bytes, Memory};
+use fw_list::{Bytes, LONGEST_FRAME, Memory};
 use std::alloc::Global;
 
 /// Whether the byte is a digit, of either case.

@@ -9,6 +9,6 @@ mod read;
 mod step;
 mod text;
 
-pub use limits::{LAST_FRAME, LONGEST_FRAME, MOST_FLUSHED};
+pub use limits::{LAST_FRAME, MOST_FLUSHED};
 pub use read::step_of;
 pub use step::{Lie, LieAnswer, LieEntry, LieOp, LieReply, LieRequest, Step};

@@ -3,8 +3,5 @@
 /// The last frame that a step can name, counted from 0.
 pub const LAST_FRAME: u32 = 65_535;
 
-/// The longest frame, in bytes.
-pub const LONGEST_FRAME: usize = 33_554_432;
-
 /// The most frames that one step delivers.
 pub const MOST_FLUSHED: u32 = 1_000_000;

@@ -1,6 +1,7 @@
 -- Checks of a list's items in order, up to the first that is not valid.
-use Rattle.std.proofs.Common.{ℕ, ◌+◌, ◌<◌, ◌≤◌, ◌≡◌, ◌∙◌, refl, sym, ap, subst, Bool, true, false, List, [], ◌∷◌, ◌++◌, length, take, drop, get_or, map}
-use Rattle.std.specs.Prelude.{flat_map}
+use Rattle.std.proofs.Common.{ℕ, zero, suc, ◌+◌, ◌<◌, ◌≤◌, ◌≡◌, ◌≢◌, ◌∙◌, arith, inl, inr, refl, sym, ap, subst, Bool, true, false, List, [], ◌∷◌, ◌++◌, length, take, drop, get_or, map}
+use Rattle.std.specs.Prelude.{flat_map, filter}
+use Rattle.std.proofs.lemmas.Bool.{cases_Bool}
 use Rattle.std.proofs.lemmas.List.{map-append, append-nil, take_all, take_more, drop_more, take-append-drop}
 use Rattle.std.proofs.lemmas.Grind.{flat_map-append}
 use Rattle.fw_text.specs.Texts.{hash}
@@ -56,3 +57,12 @@ checks_item d each found s t f h xs i x is checks =
 pub checks_proof : (d : PlainDirectory) (found : Bool) (s t : ℕ) (q : Proof) (signers : List Signer) → signers ≡ q.signers → Checks d 257 found s t (entry_piece (plain_entry q.entry) ∷ signer_pieces 0 q.view q.number (entry_digest hash (plain_entry q.entry)) (map plain_signer signers)) → Checks d 257 found s t (proof_pieces hash (plain_proof q))
 checks_proof d found s t q signers same checks =
     subst (λ z. Checks d 257 found s t (entry_piece (plain_entry q.entry) ∷ signer_pieces 0 q.view q.number (entry_digest hash (plain_entry q.entry)) (map plain_signer z))) same checks
+
+-- where one of the items passes a test, some do
+pub some_pass : {X : Type 0} (test : X → Bool) (xs : List X) (i : ℕ) (x : X) → i < length xs → test (get_or xs i x) ≡ true → filter test xs ≢ []
+some_pass test [] i x inside passes = absurd (omega arith)
+some_pass test (y ∷ ys) zero x inside passes = rw passes (λ e. cc)
+some_pass test (y ∷ ys) (suc i) x inside passes = elim (cases_Bool (test y)) [
+  | inl is ↦ rw is (λ e. cc)
+  | inr not ↦ rw not (some_pass test ys i x (omega arith) passes)
+]

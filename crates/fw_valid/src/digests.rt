@@ -9,31 +9,22 @@ ghost use Rattle.fw_frame.specs.Plain.{plain_request, plain_proof, plain_change}
 ghost use Rattle.fw_frame.specs.Parts.{request_text, change_text, new_view_text, listed, heading};
 
 use fw_digest::{Steps, counted_digest};
-use fw_frame::{Change, Proof, Request, entry_digest};
+use fw_frame::{Change, Proof, Request, entry_digest, three_numbers, two_numbers};
 use std::sync::ledger::Ledger;
 
-/// Two numbers, in four bytes each.
-#[tactic(auto, unfolding(fw_list::specs::Numbers::u32))]
-fn two_numbers(first: u32, second: u32) -> [u8; 8]
-    ensures value { result ≡ u32 first ++ u32 second }
-    ensures len { length result ≡ 8 }
-{
-    let mut bytes = [0; 8];
-    bytes[..4].copy_from_slice(&first.to_be_bytes());
-    bytes[4..].copy_from_slice(&second.to_be_bytes());
-    bytes
-}
+/// The bytes of what a view change says of its proofs, at most: 40 for each of 64 numbers.
+const MOST_OF_PROOFS: usize = 64 * 40;
 
-/// Three numbers, in four bytes each.
-#[tactic(auto, unfolding(fw_list::specs::Numbers::u32))]
-fn three_numbers(first: u32, second: u32, third: u32) -> [u8; 12]
-    ensures { result ≡ u32 first ++ u32 second ++ u32 third }
-{
-    let mut bytes = [0; 12];
-    bytes[..4].copy_from_slice(&first.to_be_bytes());
-    bytes[4..8].copy_from_slice(&second.to_be_bytes());
-    bytes[8..].copy_from_slice(&third.to_be_bytes());
-    bytes
+/// The bytes of what a new view says of its view changes, at most: 36 for each node of a quorum of 7.
+const MOST_OF_CHANGES: usize = 7 * 36;
+
+/// The reply to a number: whom it is for, and its body.
+#[derive(Clone, Copy)]
+pub struct Answer<'a> {
+    pub number: u32,
+    pub client: u32,
+    pub stamp: u32,
+    pub body: &'a [u8],
 }
 
 /// What a client signs for its request.
@@ -64,17 +55,12 @@ pub fn vote_digest<L: Ledger>(
 
 /// What is signed for the reply to a number.
 #[tactic(auto, unfolding(fw_text::specs::Texts::hash, fw_text::specs::Texts::text_bytes))]
-pub fn answer_digest<L: Ledger>(
-    number: u32,
-    client: u32,
-    stamp: u32,
-    body: &[u8],
-    steps: &mut Steps<L>,
-) -> [u8; 32]
-    ensures digest { result ≡ hash (Answered number client stamp body.now) }
+pub fn answer_digest<L: Ledger>(answer: &Answer<'_>, steps: &mut Steps<L>) -> [u8; 32]
+    ensures digest { result ≡ hash (Answered answer.now.number answer.now.client answer.now.stamp answer.now.body.now) }
     ensures step { steps.new ≡ steps.old + 1 }
 {
-    counted_digest(22, &three_numbers(number, client, stamp), body, steps)
+    let head = three_numbers(answer.number, answer.client, answer.stamp);
+    counted_digest(22, &head, answer.body, steps)
 }
 
 /// Two numbers, and a digest.
@@ -131,7 +117,7 @@ pub fn change_digest<L: Ledger>(change: &Change<'_>, steps: &mut Steps<L>) -> [u
     ensures step { steps.new ≡ steps.old + 1 }
 {
     let proofs = change.proofs.items();
-    let mut block = [0; 2560];
+    let mut block = [0; MOST_OF_PROOFS];
     let len = put_proofs(&mut block, proofs);
     let head = three_numbers(change.view, change.agree, proofs.len() as u32);
     counted_digest(20, &head, &block[..len], steps)
@@ -178,7 +164,7 @@ pub fn new_view_digest<L: Ledger>(
     ensures digest { result ≡ hash (new_view_text hash view (map plain_change changes.now)) }
     ensures step { steps.new ≡ steps.old + length changes.now + 1 }
 {
-    let mut block = [0; 252];
+    let mut block = [0; MOST_OF_CHANGES];
     let len = put_changes(&mut block, changes, steps);
     let head = two_numbers(view, changes.len() as u32);
     counted_digest(21, &head, &block[..len], steps)

@@ -9,16 +9,18 @@ ghost use Rattle.fw_base.specs.Places.{slot_fits, last_point};
 ghost use Rattle.fw_text.specs.Texts.{Text, Voted, Answered, hash};
 ghost use Rattle.fw_frame.specs.Frames.{NewView};
 ghost use Rattle.fw_frame.specs.Plain.{plain, plain_request, plain_entry, plain_signer, plain_proof, plain_change};
-ghost use Rattle.fw_frame.specs.Parts.{Signed, entry_digest, request_piece, entry_piece, vote_slot, signer_pieces, proof_pieces, change_pieces, new_view_pieces, pieces};
+ghost use Rattle.fw_frame.specs.Parts.{Signed, entry_digest, request_piece, entry_piece, signer_pieces, proof_pieces, change_pieces, new_view_pieces, pieces};
 ghost use Rattle.fw_frame.specs.Ranges.{number_fits, request_fits, entry_fits, proof_fits, change_fits, frame_fits, values_fit};
 ghost use Rattle.fw_frame.specs.Gathered.{is_voting, is_answer};
 ghost use Rattle.fw_valid.specs.Checks.{Checks, AreVotes};
 
-use crate::digests::{answer_digest, change_digest, new_view_digest, request_digest, vote_digest};
+use crate::digests::{
+    Answer, answer_digest, change_digest, new_view_digest, request_digest, vote_digest,
+};
 use fw_base::Slot;
 use fw_digest::Steps;
 use fw_directory::Directory;
-use fw_frame::{Change, Entry, Frame, Proof, Request, Signer, entry_digest};
+use fw_frame::{Change, Entry, Frame, Proof, Request, Signer, entry_digest, vote_slot};
 use fw_lamport::verify;
 use std::sync::ledger::Ledger;
 
@@ -71,25 +73,6 @@ fn check_entry<L: Ledger>(directory: &Directory, entry: &Entry<'_>, steps: &mut 
     match entry {
         Entry::Null => true,
         Entry::Request(request) => check_request(directory, request, steps),
-    }
-}
-
-/// The slot of a vote: prepare (phase 0) or commit.
-fn vote_slot(phase: u32, view: u32, number: u32, agree: u32) -> Slot
-    ensures { result ≡ vote_slot phase view number agree }
-{
-    if phase == 0 {
-        Slot::Prepare {
-            view,
-            number,
-            agree,
-        }
-    } else {
-        Slot::Commit {
-            view,
-            number,
-            agree,
-        }
     }
 }
 
@@ -284,21 +267,20 @@ fn check_voting<L: Ledger>(
 /// Shares of a reply, at a point, or its secrets.
 fn check_answered<L: Ledger>(
     directory: &Directory,
-    number: u32,
+    answer: &Answer<'_>,
     point: u32,
-    client: u32,
-    stamp: u32,
-    body: &[u8],
     values: &[u8],
     steps: &mut Steps<L>,
 ) -> bool
-    requires number { IsTrue (number_fits directory.now.params number) }
+    requires number { IsTrue (number_fits directory.now.params answer.now.number) }
     requires point { point ≤ executors directory.now.params }
     requires values { IsTrue (values_fit values.now) }
-    ensures { Checks directory.now 257 result steps.old steps.new (Signed (record { slot = slots.Reply number; point = point; text = Answered number client stamp body.now; values = values.now }) ∷ []) }
+    ensures { Checks directory.now 257 result steps.old steps.new (Signed (record { slot = slots.Reply answer.now.number; point = point; text = Answered answer.now.number answer.now.client answer.now.stamp answer.now.body.now; values = values.now }) ∷ []) }
 {
-    let digest = answer_digest(number, client, stamp, body, steps);
-    let slot = Slot::Reply { number };
+    let digest = answer_digest(answer, steps);
+    let slot = Slot::Reply {
+        number: answer.number,
+    };
     check_part(directory, slot, point, &digest, values, steps)
 }
 
@@ -319,9 +301,13 @@ fn check_answer<L: Ledger>(directory: &Directory, frame: &Frame<'_>, steps: &mut
             shares,
         } => {
             let point = *exec + 1;
-            check_answered(
-                directory, *number, point, *client, *stamp, body, shares, steps,
-            )
+            let answer = Answer {
+                number: *number,
+                client: *client,
+                stamp: *stamp,
+                body,
+            };
+            check_answered(directory, &answer, point, shares, steps)
         }
         Frame::Reply {
             number,
@@ -329,7 +315,15 @@ fn check_answer<L: Ledger>(directory: &Directory, frame: &Frame<'_>, steps: &mut
             stamp,
             body,
             secrets,
-        } => check_answered(directory, *number, 0, *client, *stamp, body, secrets, steps),
+        } => {
+            let answer = Answer {
+                number: *number,
+                client: *client,
+                stamp: *stamp,
+                body,
+            };
+            check_answered(directory, &answer, 0, secrets, steps)
+        }
         _ => unreachable!(),
     }
 }

@@ -1,7 +1,7 @@
 -- Numbers that are gone through one after another.
 use Rattle.std.proofs.Common.{◌≡◌, ℕ, suc, ◌+◌, ◌-◌, ◌<◌, List, [], ◌∷◌, ◌++◌, map, refl, sym, ap, ◌∙◌, arith, append_assoc, Option, Some, Bool, cond, slice_get, drop, length}
 use Rattle.std.specs.Prelude.{count_by, ◌==◌}
-use Rattle.fw_ref.specs.declared.asked.Asked.{Asked}
+use Rattle.typed_ref.specs.declared.asked.Asked.{Asked}
 use Rattle.fw_report.specs.declared.summary.CrossLine.{CrossLine}
 use Rattle.fw_report.specs.declared.summary.AgreedLine.{AgreedLine}
 use Rattle.fw_report.specs.declared.summary.AcceptLine.{AcceptLine}
@@ -10,11 +10,11 @@ use Rattle.fw_base.specs.declared.params.Params.{Params}
 use Rattle.fw_op.specs.declared.reply.Reply.{Reply}
 use Rattle.fw_trace.specs.declared.Told.{Told}
 use Rattle.fw_trace.specs.Trace.{Trace, crossing, rests_from}
-use Rattle.fw_rules.specs.World.{rules}
-use Rattle.fw_rules.specs.Outcome.{accepted_by, in_row}
+use Rattle.typed_rules.specs.World.{rules}
+use Rattle.typed_rules.specs.Outcome.{accepted_by, in_row}
 use Rattle.fw_world.specs.Numbers.{agreed_of}
 use Rattle.fw_op.specs.declared.op.Op.{Op}
-use Rattle.fw_node.specs.declared.Message.{Message}
+use Rattle.typed_node.specs.declared.Message.{Message}
 use Rattle.fw_trace.specs.declared.Logged.{Logged}
 use Rattle.fw_list.specs.Lists.{numbers_from}
 use Rattle.fw_trace.specs.Lists.{front_of}

@@ -13,10 +13,10 @@ use Rattle.fw_trace.specs.declared.Logged.{Logged}
 use Rattle.fw_trace.specs.Trace.{Trace, Rules, Event, Delivers, history, from_seat, takes, after, delivers, next_frame}
 use Rattle.fw_trace.specs.Run as runs
 use Rattle.fw_trace.proofs.Words.{seat_eq-refl}
-use Rattle.fw_node.specs.declared.Message.{Message}
-use Rattle.fw_node.specs.Given.{Taken}
-use Rattle.fw_rules.specs.Agree.{Out}
-use Rattle.fw_rules.specs.World.{rules_by, world_by}
+use Rattle.typed_node.specs.declared.Message.{Message}
+use Rattle.typed_node.specs.Given.{Taken}
+use Rattle.typed_rules.specs.Agree.{Out}
+use Rattle.typed_rules.specs.World.{rules_by, world_by}
 use Rattle.fw_world.specs.Nodes.{Nodes, node_rule, nodes_rule}
 use Rattle.fw_world.specs.Delivery.{delivery}
 use Rattle.fw_world.specs.Schedule.{schedule, step_of_run}

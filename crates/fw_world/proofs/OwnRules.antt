@@ -12,11 +12,11 @@ use Rattle.fw_step.specs.declared.step.Step.{Step}
 use Rattle.fw_trace.specs.Role.{sends}
 use Rattle.fw_trace.specs.Trace.{Trace, nothing}
 use Rattle.fw_trace.specs.Run as runs
-use Rattle.fw_node.specs.declared.Message.{Message}
-use Rattle.fw_node.specs.Given.{Taken}
-use Rattle.fw_rules.specs.Agree.{Out, agree_role}
-use Rattle.fw_rules.specs.Speeches.{client_role, executor_role, filter_role}
-use Rattle.fw_rules.specs.World.{rule_of, world, world_by}
+use Rattle.typed_node.specs.declared.Message.{Message}
+use Rattle.typed_node.specs.Given.{Taken}
+use Rattle.typed_rules.specs.Agree.{Out, agree_role}
+use Rattle.typed_rules.specs.Speeches.{client_role, executor_role, filter_role}
+use Rattle.typed_rules.specs.World.{rule_of, world, world_by}
 use Rattle.fw_world.specs.Nodes.{Nodes, rule_or_none, nodes_rule}
 use Rattle.fw_world.specs.Schedule.{schedule}
 use Rattle.fw_world.specs.Seen.{Seen, world_of}

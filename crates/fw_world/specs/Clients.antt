@@ -4,7 +4,7 @@ use Rattle.fw_base.specs.declared.params.Params.{Params}
 use Rattle.fw_base.specs.declared.seat.Seat.TheVariants.{Client}
 use Rattle.fw_op.specs.declared.op.Op.{Op}
 use Rattle.fw_trace.specs.Trace.{Trace, history}
-use Rattle.fw_node.specs.declared.Message.{Message}
+use Rattle.typed_node.specs.declared.Message.{Message}
 use Rattle.fw_world.specs.Nodes.{Stands}
 
 -- the k-th of them stands for the history of client k

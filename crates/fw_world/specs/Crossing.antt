@@ -2,8 +2,8 @@
 use Rattle.std.specs.Prelude.{ℕ, ◌&&◌, Option, None, if◌then◌else◌}
 use Rattle.fw_base.specs.Seats.{below}
 use Rattle.fw_trace.specs.declared.Sent.{Sent}
-use Rattle.fw_node.specs.declared.Message.{Message}
-use Rattle.fw_rules.specs.Outcome.{in_row}
+use Rattle.typed_node.specs.declared.Message.{Message}
+use Rattle.typed_rules.specs.Outcome.{in_row}
 use Rattle.fw_world.specs.Summary.{reply_number}
 
 -- where it is a reply that a filter of the row sent downwards

@@ -6,7 +6,7 @@ use Rattle.fw_op.specs.declared.op.Op.{Op}
 use Rattle.fw_trace.specs.declared.Input.TheVariants.{Heard}
 use Rattle.fw_trace.specs.declared.Sent.{Sent}
 use Rattle.fw_trace.specs.declared.Logged.{Logged}
-use Rattle.fw_node.specs.declared.Message.{Message}
+use Rattle.typed_node.specs.declared.Message.{Message}
 
 -- its addressee hears it; nothing, where there is no such frame or no such seat
 abbrev pub delivery : Params → ℕ → Option (Sent Message) → Option (Logged Message Op)

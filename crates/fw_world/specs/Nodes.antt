@@ -4,8 +4,8 @@ use Rattle.fw_base.specs.declared.params.Params.{Params}
 use Rattle.fw_base.specs.declared.seat.Seat.{Seat}
 use Rattle.fw_base.specs.declared.seat.Seat.TheVariants.{Agree, Exec, Filter, Client}
 use Rattle.fw_base.specs.Seats.{fits, seat_eq}
-use Rattle.fw_node.specs.Given.{Taken}
-use Rattle.fw_rules.specs.Agree.{Out}
+use Rattle.typed_node.specs.Given.{Taken}
+use Rattle.typed_rules.specs.Agree.{Out}
 
 -- one node of each kind, and the clients
 pub record Nodes (A E F C : Type 0) : Type 0 where

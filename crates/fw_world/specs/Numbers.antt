@@ -1,11 +1,11 @@
 -- The numbers of agreed messages.
 use Rattle.std.specs.Prelude.{ℕ, cond, nat_eq, List, Option, None, Some}
-use Rattle.fw_ref.specs.declared.asked.Asked.{Asked}
+use Rattle.typed_ref.specs.declared.asked.Asked.{Asked}
 use Rattle.fw_trace.specs.declared.Sent.{Sent}
 use Rattle.fw_trace.specs.Lists.{greatest_of}
 use Rattle.fw_trace.specs.Run.{agreed_list}
-use Rattle.fw_node.specs.declared.Message.{Message}
-use Rattle.fw_rules.specs.Speeches.{agreed_in}
+use Rattle.typed_node.specs.declared.Message.{Message}
+use Rattle.typed_rules.specs.Speeches.{agreed_in}
 
 -- what is read, where it has this number
 abbrev pub asked_as : ℕ → Option (ℕ × Asked) → Option Asked

@@ -3,7 +3,7 @@ use Rattle.std.specs.Prelude.{◌≡◌, ℕ, List}
 use Rattle.fw_op.specs.declared.op.Op.{Op}
 use Rattle.fw_sched.specs.declared.plan.Plan.{Plan}
 use Rattle.fw_trace.specs.Trace.{Trace}
-use Rattle.fw_node.specs.declared.Message.{Message}
+use Rattle.typed_node.specs.declared.Message.{Message}
 use Rattle.fw_law_reply.specs.Laws.{AcceptsAnswers, LetsDownCertificates}
 use Rattle.fw_world.specs.Schedule.{IsRunOf}
 use Rattle.fw_world.specs.Summary.{report_of}

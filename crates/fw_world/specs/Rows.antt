@@ -9,8 +9,8 @@ use Rattle.fw_op.specs.declared.op.Op.{Op}
 use Rattle.fw_op.specs.declared.op.Op.TheVariants.{Put, Get}
 use Rattle.fw_trace.specs.Trace.{Trace}
 use Rattle.fw_trace.specs.Run.{run}
-use Rattle.fw_node.specs.declared.Message.{Message}
-use Rattle.fw_rules.specs.World.{world}
+use Rattle.typed_node.specs.declared.Message.{Message}
+use Rattle.typed_rules.specs.World.{world}
 use Rattle.fw_world.specs.Schedule.{schedule}
 use Rattle.fw_world.specs.Summary.{summary_of, report_of}
 

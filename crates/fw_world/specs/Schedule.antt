@@ -12,8 +12,8 @@ use Rattle.fw_sched.specs.declared.plan.Plan.{Plan}
 use Rattle.fw_sched.specs.Simple.{is_simple_plan}
 use Rattle.fw_trace.specs.Trace.{Trace}
 use Rattle.fw_trace.specs.Run as runs
-use Rattle.fw_node.specs.declared.Message.{Message}
-use Rattle.fw_rules.specs.World.{world}
+use Rattle.typed_node.specs.declared.Message.{Message}
+use Rattle.typed_rules.specs.World.{world}
 
 -- a step of a plan, as a step of its run; no plan with a lie is run so far
 abbrev pub step_of_run : Step → runs.Step Op ⊥

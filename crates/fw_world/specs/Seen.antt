@@ -5,10 +5,10 @@ use Rattle.fw_op.specs.declared.op.Op.{Op}
 use Rattle.fw_trace.specs.declared.Logged.{Logged}
 use Rattle.fw_trace.specs.Trace.{Trace, Rules, history}
 use Rattle.fw_trace.specs.Run as runs
-use Rattle.fw_node.specs.declared.Message.{Message}
-use Rattle.fw_node.specs.Given.{Taken}
-use Rattle.fw_rules.specs.Agree.{Out}
-use Rattle.fw_rules.specs.World.{rules_by, world_by}
+use Rattle.typed_node.specs.declared.Message.{Message}
+use Rattle.typed_node.specs.Given.{Taken}
+use Rattle.typed_rules.specs.Agree.{Out}
+use Rattle.typed_rules.specs.World.{rules_by, world_by}
 use Rattle.fw_world.specs.Single.{AreSingle}
 use Rattle.fw_world.specs.Nodes.{Nodes, Stands, AllStand, nodes_rule}
 

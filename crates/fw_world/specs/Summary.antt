@@ -4,18 +4,18 @@ use Rattle.std.specs.Option.{option_to_list}
 use Rattle.fw_base.specs.declared.params.Params.{Params}
 use Rattle.fw_op.specs.declared.op.Op.{Op}
 use Rattle.fw_op.specs.declared.reply.Reply.{Reply}
-use Rattle.fw_ref.specs.declared.asked.Asked.{Asked}
+use Rattle.typed_ref.specs.declared.asked.Asked.{Asked}
 use Rattle.fw_trace.specs.declared.Told.{Told}
 use Rattle.fw_trace.specs.declared.Sent.{Sent}
 use Rattle.fw_trace.specs.declared.Logged.{Logged}
 use Rattle.fw_trace.specs.declared.Input.TheVariants.{Submitted}
 use Rattle.fw_list.specs.Lists.{numbers_from}
 use Rattle.fw_trace.specs.Trace.{Trace, rests_from}
-use Rattle.fw_node.specs.declared.Message.{Message}
-use Rattle.fw_node.specs.declared.Message.TheVariants as message
-use Rattle.fw_node.specs.Given.{Taken}
-use Rattle.fw_rules.specs.World.{rules}
-use Rattle.fw_rules.specs.Outcome.{agreed, accepted_by, let_down}
+use Rattle.typed_node.specs.declared.Message.{Message}
+use Rattle.typed_node.specs.declared.Message.TheVariants as message
+use Rattle.typed_node.specs.Given.{Taken}
+use Rattle.typed_rules.specs.World.{rules}
+use Rattle.typed_rules.specs.Outcome.{agreed, accepted_by, let_down}
 use Rattle.fw_report.specs.declared.summary.Said.TheVariants as said
 use Rattle.fw_report.specs.declared.summary.AgreedLine.{AgreedLine}
 use Rattle.fw_report.specs.declared.summary.AcceptLine.{AcceptLine}

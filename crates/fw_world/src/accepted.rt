@@ -4,19 +4,19 @@ ghost use Rattle.std.specs.Prelude.{◌≡◌, ◌++◌, ◌<◌, ◌^◌, ℕ, 
 ghost use Rattle.fw_base.specs.declared.params.Params.{Params};
 ghost use Rattle.fw_base.specs.declared.seat.Seat.TheVariants as seats;
 ghost use Rattle.fw_op.specs.declared.op.Op.{Op};
-ghost use Rattle.fw_node.specs.declared.Message.{Message};
+ghost use Rattle.typed_node.specs.declared.Message.{Message};
 ghost use Rattle.fw_list.specs.Lists.{numbers_from};
 ghost use Rattle.fw_trace.specs.Trace.{Trace, history};
 ghost use Rattle.fw_world.specs.Summary.{accept_line_of, accept_lines};
 ghost use Rattle.fw_world.specs.Clients.{ClientsStand};
 
-use fw_client::ClientNode;
 use fw_list::{Items, Memory};
-use fw_node::Node;
 use fw_op::Reply;
 use fw_report::AcceptLine;
 use fw_trace::Told;
 use std::alloc::Global;
+use typed_client::ClientNode;
+use typed_node::Node;
 
 /// Adds the lines of what a client accepted.
 fn push_accepted(

@@ -2,16 +2,16 @@
 
 ghost use Rattle.std.specs.Prelude.{◌≡◌, ◌==◌, ◌++◌, IfOk, OnOk, count_by};
 ghost use Rattle.fw_trace.specs.Trace.{crossing};
-ghost use Rattle.fw_rules.specs.Outcome.{in_row};
+ghost use Rattle.typed_rules.specs.Outcome.{in_row};
 ghost use Rattle.fw_world.specs.Summary.{reply_number, reply_numbers, greatest, line_of_copies, cross_lines};
 ghost use Rattle.fw_world.specs.Crossing.{crossing_number};
 
 use fw_base::Seat;
 use fw_list::{Items, Memory};
-use fw_node::Message;
 use fw_report::CrossLine;
 use fw_trace::Sent;
 use std::alloc::Global;
+use typed_node::Message;
 
 /// A count, where a u32 holds it.
 pub fn as_u32(count: usize) -> Result<u32, Memory>

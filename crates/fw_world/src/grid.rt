@@ -5,14 +5,14 @@ ghost use Rattle.fw_base.specs.declared.params.Params.{Params};
 ghost use Rattle.fw_base.specs.declared.seat.Seat.{Seat};
 ghost use Rattle.fw_base.specs.declared.seat.Seat.TheVariants as seats;
 ghost use Rattle.fw_base.specs.Seats.{fits};
-ghost use Rattle.fw_node.specs.Given.{Taken, taken};
+ghost use Rattle.typed_node.specs.Given.{Taken, taken};
 ghost use Rattle.fw_world.specs.Single.{AreSingle};
 ghost use Rattle.fw_world.specs.Nodes.{node_rule, rule_or_none, AllStand, with_input};
 ghost use Rattle.fw_world.specs.GridNodes.{nodes_of};
 
 use fw_base::{Params, Seat};
 use fw_list::Memory;
-use fw_node::{Given, Node, Outbox};
+use typed_node::{Given, Node, Outbox};
 
 /// One node of each kind, and the clients by number.
 #[derive(Drop)]

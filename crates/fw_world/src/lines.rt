@@ -4,17 +4,17 @@ ghost use Rattle.std.specs.Prelude.{◌≡◌, ◌+◌, ◌<◌, ◌≤◌, ◌�
 ghost use Rattle.std.specs.Option.{option_copied};
 ghost use Rattle.fw_trace.specs.Lists.{greatest_of};
 ghost use Rattle.fw_trace.specs.Run as runs;
-ghost use Rattle.fw_rules.specs.Speeches.{agreed_in};
+ghost use Rattle.typed_rules.specs.Speeches.{agreed_in};
 ghost use Rattle.fw_world.specs.Summary.{agreed_lines, submissions, is_submission};
 ghost use Rattle.fw_world.specs.Numbers.{asked_as, number_of, greatest_agreed, agreed_of};
 
 use fw_list::{Items, Memory, Newest};
-use fw_node::Message;
 use fw_op::Op;
-use fw_ref::Asked;
 use fw_report::{AgreedLine, Said};
 use fw_trace::{Input, Logged, Sent};
 use std::alloc::Global;
+use typed_node::Message;
+use typed_ref::Asked;
 
 /// The request of an agreed message of this number.
 fn asked_as(message: &Message, n: u32) -> Option<&Asked>

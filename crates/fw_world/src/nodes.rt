@@ -4,23 +4,23 @@ ghost use Rattle.std.specs.Prelude.{◌≡◌, ℕ, List, [], IfOk, Some, length
 ghost use Rattle.fw_base.specs.declared.params.Params.{Params};
 ghost use Rattle.fw_base.specs.declared.seat.Seat.{Seat};
 ghost use Rattle.fw_base.specs.declared.seat.Seat.TheVariants as seats;
-ghost use Rattle.fw_client.specs.Standing.{Asker};
+ghost use Rattle.typed_client.specs.Standing.{Asker};
 ghost use Rattle.fw_trace.specs.Role.{sends};
-ghost use Rattle.fw_rules.specs.World.{rule_of};
-ghost use Rattle.fw_rules.specs.Speeches.{client_role};
+ghost use Rattle.typed_rules.specs.World.{rule_of};
+ghost use Rattle.typed_rules.specs.Speeches.{client_role};
 ghost use Rattle.fw_world.specs.Single.{AreSingle};
 ghost use Rattle.fw_world.specs.Nodes.{AllStand, nodes_rule};
 ghost use Rattle.fw_world.specs.GridNodes.{nodes_of};
 
 use crate::Grid;
-use fw_agree::AgreeNode;
 use fw_base::Params;
-use fw_client::ClientNode;
-use fw_exec::ExecNode;
-use fw_filter::FilterNode;
 use fw_list::Memory;
-use fw_node::Node;
 use std::alloc::Global;
+use typed_agree::AgreeNode;
+use typed_client::ClientNode;
+use typed_exec::ExecNode;
+use typed_filter::FilterNode;
+use typed_node::Node;
 
 /// The nodes of a deployment, as the program runs them.
 pub type Cores = Grid<AgreeNode, ExecNode, FilterNode, ClientNode>;

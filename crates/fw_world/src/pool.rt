@@ -3,18 +3,18 @@
 ghost use Rattle.std.specs.Prelude.{◌≡◌, ◌↔◌, ◌++◌, ◌&&◌, ◌||◌, not, List, IsTrue, OnOk};
 ghost use Rattle.fw_base.specs.Sizes.{accepted};
 ghost use Rattle.fw_base.specs.Seats.{fits};
-ghost use Rattle.fw_node.specs.Given.{taken};
+ghost use Rattle.typed_node.specs.Given.{taken};
 ghost use Rattle.fw_trace.specs.Trace.{from_seat, is_frame, was_delivered, next_frame, rests_from, IsAtRest};
-ghost use Rattle.fw_rules.specs.World.{rules_by};
-ghost use Rattle.fw_rules.specs.Agree.{Out};
-ghost use Rattle.fw_node.specs.Given.{Taken};
+ghost use Rattle.typed_rules.specs.World.{rules_by};
+ghost use Rattle.typed_rules.specs.Agree.{Out};
+ghost use Rattle.typed_node.specs.Given.{Taken};
 ghost use Rattle.fw_base.specs.declared.seat.Seat.{Seat};
 
 use fw_base::{Params, Seat};
 use fw_list::{Items, Memory, Newest};
-use fw_node::{Given, Message, Outbox};
 use fw_op::Op;
 use fw_trace::{Input, Logged, Sent};
+use typed_node::{Given, Message, Outbox};
 
 /// An input that is kept, lent to a node.
 pub fn lent(input: &Input<Message, Op>) -> Given<'_>

@@ -7,7 +7,7 @@ ghost use Rattle.std.specs.List.{list_all};
 ghost use Rattle.fw_base.specs.declared.seat.Seat.{Seat};
 ghost use Rattle.fw_base.specs.declared.seat.Seat.TheVariants as seats;
 ghost use Rattle.fw_base.specs.Seats.{fits};
-ghost use Rattle.fw_node.specs.Given.{Taken};
+ghost use Rattle.typed_node.specs.Given.{Taken};
 ghost use Rattle.fw_trace.specs.Trace.{from_seat};
 ghost use Rattle.fw_world.specs.Single.{AreSingle};
 ghost use Rattle.fw_world.specs.Nodes.{node_rule, AllStand, with_input};
@@ -20,15 +20,15 @@ use crate::grid::give;
 use crate::lines::{agreed_lines, submissions};
 use crate::pool::{is_at_rest, lent, next, send};
 use fw_base::{Params, Seat};
-use fw_client::ClientNode;
 use fw_list::{Items, Memory, Newest};
-use fw_node::{Message, Node, Outbox};
 use fw_op::Op;
 use fw_report::Summary;
 use fw_sched::Step;
 use fw_trace::{Input, Logged, Sent};
 use std::alloc::Global;
 use std::marker::Model;
+use typed_client::ClientNode;
+use typed_node::{Message, Node, Outbox};
 
 /// Nodes, what was sent, and what was taken.
 #[derive(Drop)]
@@ -115,7 +115,7 @@ impl<A: Node, E: Node, F: Node, C: Node> World<A, E, F, C> {
     ghost use Rattle.fw_base.specs.declared.seat.Seat.{Seat};
     ghost use Rattle.fw_base.specs.declared.seat.Seat.TheVariants as seats;
     ghost use Rattle.fw_base.specs.Seats.{fits};
-    ghost use Rattle.fw_node.specs.Given.{Taken};
+    ghost use Rattle.typed_node.specs.Given.{Taken};
     ghost use Rattle.fw_trace.specs.Trace.{takes, after, nothing, next_frame};
     ghost use Rattle.fw_trace.specs.Trace.{Submits, Delivers};
     ghost use Rattle.fw_trace.specs.Run as runs;
@@ -269,7 +269,7 @@ impl<A: Node, E: Node, F: Node, C: Node> World<A, E, F, C> {
 impl<A: Node, E: Node, F: Node> World<A, E, F, ClientNode> {
     ghost use Rattle.std.specs.Prelude.{◌≡◌, ◌↔◌, IfOk, IsTrue, false};
     ghost use Rattle.fw_trace.specs.Trace.{IsAtRest};
-    ghost use Rattle.fw_rules.specs.World.{rules};
+    ghost use Rattle.typed_rules.specs.World.{rules};
     ghost use Rattle.fw_world.specs.Summary.{summary_of};
 
     /// What the run so far agreed, accepted and let down.

@@ -1,6 +1,6 @@
 //! Sealed bodies: four keys, and the body that was sealed last or given.
 
-use crate::notation::{bytes_of, digest as digest_in, number, said, shown};
+use crate::notation::{bytes_of, counted, digest as digest_in, number, said, shown};
 use fw_digest::digest;
 use fw_list::{BODY_LEN, LONGEST_TEXT, Memory};
 use fw_seal::{Body, BodyKey, Direction, seal, unseal};
@@ -169,7 +169,7 @@ impl Bodies {
             return Ok(None);
         };
         let count = refused(&under, &self.body);
-        Ok(Some(format!(in alloc; "{count} of 544 refused")?))
+        counted(alloc, count as usize, " of 544 refused")
     }
 
     /// The answer to a case of bodies.

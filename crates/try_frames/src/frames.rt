@@ -12,7 +12,7 @@ ghost use Rattle.fw_frame.specs.Plain.{plain};
 ghost use Rattle.fw_frame.specs.Ranges.{frame_fits};
 ghost use Rattle.fw_frame.specs.Writing.{IsWritable};
 
-use crate::notation::{bytes_of, number, said};
+use crate::notation::{bytes_of, counted, number, said, shown as hex_of};
 use fw_base::Params;
 use fw_frame::{Entry, Frame};
 use fw_list::{Bytes, Memory};
@@ -64,15 +64,25 @@ fn frame_bytes(alloc: Global, words: &[&str]) -> Result<Option<Bytes>, Memory> {
     Ok(Some(out.finish()))
 }
 
+/// How many bytes there are, if they are what was written.
+fn compared(
+    alloc: Global,
+    written: &[u8],
+    bytes: &[u8],
+    word: &str,
+) -> Result<Option<String>, Memory> {
+    if written != bytes {
+        return said(alloc, "other bytes are written");
+    }
+    counted(alloc, bytes.len(), word)
+}
+
 /// `read WORD ..`: how many bytes the frame has that these bytes are, and whether the same are written of it.
 fn again(alloc: Global, frame: &Frame<'_>, bytes: &[u8]) -> Result<Option<String>, Memory>
     requires { IsWritable frame.now }
 {
     let written = frame.write(alloc)?;
-    if written.items() != bytes {
-        return said(alloc, "other bytes are written");
-    }
-    Ok(Some(format!(in alloc; "{} bytes", bytes.len())?))
+    compared(alloc, written.items(), bytes, " bytes")
 }
 
 /// `change WORD ..`: the same of a view change, written alone.
@@ -83,10 +93,7 @@ fn alone(alloc: Global, frame: &Frame<'_>, bytes: &[u8]) -> Result<Option<String
         return said(alloc, "no view change");
     };
     let written = change.write(alloc)?;
-    if written.items() != bytes {
-        return said(alloc, "other bytes are written");
-    }
-    Ok(Some(format!(in alloc; "{} bytes alone", bytes.len())?))
+    compared(alloc, written.items(), bytes, " bytes alone")
 }
 
 /// `entry WORD ..`: the front of the digest of what a proposal proposes.
@@ -104,7 +111,7 @@ fn want(alloc: Global, word: &str) -> Result<Option<String>, Memory> {
         return Ok(None);
     };
     let written = Frame::Want { number }.write(alloc)?;
-    Ok(Some(hex::encode(alloc, written.items())?))
+    hex_of(alloc, written.items())
 }
 
 /// `carried WORD ..`: what the frame carries.

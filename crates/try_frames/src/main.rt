@@ -28,9 +28,8 @@ fn answer(
     match *first {
         "digest" => digests::digest_of(alloc, rest),
         "hmac" => digests::code_of(alloc, rest),
-        "product" | "inverse" | "eval" | "split" | "combine" | "through" | "shares" => {
-            sharing::answer(alloc, first, rest)
-        }
+        "product" | "products" | "inverse" | "eval" | "split" | "combine" | "through" | "shares" =>
+            sharing::answer(alloc, first, rest),
         "deal" | "sign" | "verify" | "value" => signing::answer(alloc, first, rest),
         "key" | "seal" | "body" | "unseal" | "unseal-changed" => bodies.answer(alloc, first, rest),
         _ => sizes.answer(alloc, first, rest),

@@ -76,6 +76,13 @@ pub fn shown(alloc: Global, bytes: &[u8]) -> Result<Option<String>, Memory> {
     Ok(Some(hex::encode(alloc, bytes)?))
 }
 
+/// An answer of a number and words.
+pub fn counted(alloc: Global, count: usize, text: &str) -> Result<Option<String>, Memory> {
+    let mut answer = format!(in alloc; "{count}")?;
+    answer.push_str(text)?;
+    Ok(Some(answer))
+}
+
 /// An answer of words.
 pub fn said(alloc: Global, text: &str) -> Result<Option<String>, Memory> {
     Ok(Some(String::from_str(alloc, text)?))

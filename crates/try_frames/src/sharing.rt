@@ -1,6 +1,7 @@
 //! The field, and sharing of bytes.
 
 use crate::notation::{byte, bytes_of, number, said, shown};
+use fw_digest::digest;
 use fw_list::{Bytes, Memory};
 use fw_shamir::{Point, Weights, combine, eval, gf_inv, gf_mul, split, through};
 use std::alloc::Global;
@@ -139,9 +140,21 @@ fn both(alloc: Global, first: &str, other: &str) -> Result<Option<String>, Memor
     given(alloc, first_at, first.items(), other_at, other.items())
 }
 
+/// `products`: the digest, with the tag 0, of the products of each byte by each.
+fn products(alloc: Global) -> Result<Option<String>, Memory> {
+    let mut all = Bytes::new(alloc);
+    for a in 0..=255 {
+        for b in 0..=255 {
+            all.push(gf_mul(a, b))?;
+        }
+    }
+    shown(alloc, &digest(0, all.items(), &[]))
+}
+
 /// The answer to a case of the field or of sharing.
 pub fn answer(alloc: Global, first: &str, words: &[&str]) -> Result<Option<String>, Memory> {
     match (first, words) {
+        ("products", []) => products(alloc),
         ("eval", [coefficients, at]) => value(alloc, coefficients, at),
         ("split", [coefficients, count]) => shares(alloc, coefficients, count),
         ("shares", [one, other]) => both(alloc, one, other),

@@ -13,14 +13,10 @@ use std::alloc::Global;
 use std::marker::Brand;
 use std::sync::ledger::{Blank, Ledger};
 
-/// A slot of a line `KIND A B C`, and the number of its kind.
-fn slot(words: &[&str]) -> Option<(u8, Slot)> {
-    let [kind, a, b, c] = words else {
-        return None;
-    };
-    let (a, b, c) = (number(a)?, number(b)?, number(c)?);
+/// The slot of a kind that these numbers name, and the number of its kind.
+fn named(kind: &str, a: u32, b: u32, c: u32) -> Option<(u8, Slot)> {
     let (view, number, agree) = (a, b, c);
-    match *kind {
+    match kind {
         "prepare" => Some((
             1,
             Slot::Prepare {
@@ -51,6 +47,14 @@ fn slot(words: &[&str]) -> Option<(u8, Slot)> {
     }
 }
 
+/// A slot of a line `KIND A B C`, and the number of its kind.
+fn slot(words: &[&str]) -> Option<(u8, Slot)> {
+    let [kind, a, b, c] = words else {
+        return None;
+    };
+    named(kind, number(a)?, number(b)?, number(c)?)
+}
+
 /// The digest of a value at a place, whose numbers follow the number of its kind.
 fn value_digest(
     alloc: Global,
@@ -69,8 +73,10 @@ fn value_digest(
 /// Secret k of the deal: its byte j is k + j.
 fn secret(k: u32) -> [u8; 32] {
     let mut secret = [0; 32];
-    for j in 0..32 {
-        secret[j] = (k.wrapping_add(j as u32) % 256) as u8;
+    let mut next = (k % 256) as u8;
+    for byte in secret.iter_mut() {
+        *byte = next;
+        next = next.wrapping_add(1);
     }
     secret
 }
@@ -163,6 +169,14 @@ fn verified(alloc: Global, words: &[&str]) -> Result<Option<String>, Memory> {
     verdict(alloc, rows.items(), slot, point, &other, sig.as_slice())
 }
 
+/// Adds the row if it is given, or else the digest.
+fn add_row(rows: &mut Bytes, row: Option<&[u8; 32]>, digest: &[u8; 32]) -> Result<(), Memory> {
+    match row {
+        Some(row) => rows.append(row),
+        None => rows.append(digest),
+    }
+}
+
 /// Rows that have a value's digest at each place of a slot, but this row at one place.
 fn rows_with(
     alloc: Global,
@@ -177,7 +191,8 @@ fn rows_with(
     let mut rows = Bytes::new(alloc);
     for k in 0..512u32 {
         let digest = value_digest(alloc, kind, [a, b, c, k / 2, k % 2, point], value)?;
-        rows.append(if k == at { row } else { &digest })?;
+        let given = if k == at { Some(row) } else { None };
+        add_row(&mut rows, given, &digest)?;
     }
     Ok(rows)
 }

@@ -1,13 +1,13 @@
 //! A node of any of the four kinds.
 
-use fw_agree::AgreeNode;
 use fw_base::Params;
-use fw_client::ClientNode;
-use fw_exec::ExecNode;
-use fw_filter::FilterNode;
 use fw_list::Memory;
-use fw_node::{Given, Node, Outbox};
 use std::alloc::Global;
+use typed_agree::AgreeNode;
+use typed_client::ClientNode;
+use typed_exec::ExecNode;
+use typed_filter::FilterNode;
+use typed_node::{Given, Node, Outbox};
 
 /// One node of each kind, a client that takes two submissions, and one number at a time above the replies.
 pub const SIZES: Params = Params {

@@ -3,10 +3,10 @@
 use crate::node::SIZES;
 use fw_base::Seat;
 use fw_list::Memory;
-use fw_node::Message;
 use fw_op::{Op, Reply, Words, client_of, number_of};
-use fw_ref::{Answer, Asked};
 use std::alloc::Global;
+use typed_node::Message;
+use typed_ref::{Answer, Asked};
 
 /// How many clients a line may name.
 pub const CLIENTS: u32 = 8;

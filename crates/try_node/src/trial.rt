@@ -4,10 +4,10 @@ use crate::node::AnyNode;
 use crate::reading::{CLIENTS, message, seat};
 use crate::writing::{add_accepted, add_sent};
 use fw_list::{Bytes, Memory};
-use fw_node::{Given, Outbox};
 use fw_op::{Op, Words};
 use fw_trace::Input;
 use std::alloc::Global;
+use typed_node::{Given, Outbox};
 
 /// The node under trial, and what was printed.
 #[derive(Drop)]

@@ -2,11 +2,11 @@
 
 use fw_base::Seat;
 use fw_list::{Bytes, Memory};
-use fw_node::Message;
 use fw_op::{Reply, add_client, add_number, add_word};
-use fw_ref::{Answer, Asked};
 use fw_trace::Told;
 use std::alloc::Global;
+use typed_node::Message;
+use typed_ref::{Answer, Asked};
 
 fn add_asked(alloc: Global, text: &mut Bytes, asked: &Asked) -> Result<(), Memory> {
     add_client(text, asked.client)?;

@@ -17,10 +17,16 @@ pub struct Case {
     document: Bytes,
 }
 
+/// Adds a line, with its end.
+fn add_text(text: &mut Bytes, line: &str) -> Result<(), Memory> {
+    text.append(line.as_bytes())?;
+    text.push(b'\n')
+}
+
 /// A line, with its end.
 fn line_of(alloc: Global, line: &str) -> Result<Bytes, Memory> {
-    let mut said = Bytes::copy_of(alloc, line.as_bytes())?;
-    said.push(b'\n')?;
+    let mut said = Bytes::new(alloc);
+    add_text(&mut said, line)?;
     Ok(said)
 }
 
@@ -33,6 +39,58 @@ fn pad(document: &mut Bytes, len: usize) -> Result<(), Memory> {
     Ok(())
 }
 
+/// Adds the bytes of digits.
+fn add_digits(alloc: Global, document: &mut Bytes, digits: &str) -> Result<(), Memory> {
+    match hex::decode(alloc, digits) {
+        Ok(bytes) => document.append(bytes.as_slice()),
+        Err(_) => Ok(()),
+    }
+}
+
+/// Adds a line of a case to its document.
+fn add_line(alloc: Global, document: &mut Bytes, line: &str) -> Result<(), Memory> {
+    if let Some(len) = line.strip_prefix("@pad ") {
+        return pad(document, len.parse::<usize>().unwrap_or(0));
+    }
+    match line.strip_prefix("@hex ") {
+        Some(digits) => add_digits(alloc, document, digits),
+        None => add_text(document, line),
+    }
+}
+
+/// The words behind a case's name.
+fn words_of(alloc: Global, line: &str) -> Result<Vec<String>, Memory> {
+    let mut words = Vec::new(alloc);
+    for word in line.split(' ').skip(1) {
+        words.push(String::from_str(alloc, word)?)?;
+    }
+    Ok(words)
+}
+
+/// The number of the status of a call of the program.
+fn status(alloc: Global, words: &[String], source: &mut MemorySource, sink: &mut MemorySink) -> u8 {
+    let mut link = IdleLink::new();
+    firewall(alloc, words, source, sink, &mut link).code()
+}
+
+/// A status, and what was written.
+fn said(alloc: Global, status: u8, text: &[u8]) -> Result<Bytes, Memory> {
+    let mut said = Bytes::copy_of(alloc, b"status ")?;
+    said.append_number(u32::from(status))?;
+    said.push(b'\n')?;
+    said.append(text)?;
+    Ok(said)
+}
+
+/// Calls the program, and says its status and what it wrote.
+fn answer(alloc: Global, words: &[String], document: &[u8]) -> Result<Bytes, Memory> {
+    let document = Bytes::copy_of(alloc, document)?;
+    let mut source = MemorySource::new(document, Calls::new(alloc));
+    let mut sink = MemorySink::new(alloc, ROOM, Calls::new(alloc))?;
+    let status = status(alloc, words, &mut source, &mut sink);
+    said(alloc, status, sink.written())
+}
+
 impl Case {
     /// No case yet.
     pub fn new(alloc: Global) -> Self {
@@ -43,57 +101,26 @@ impl Case {
         }
     }
 
-    /// Begins a case with the words behind its name.
-    fn begin(&mut self, alloc: Global, words: &str) -> Result<(), Memory> {
-        self.open = true;
-        self.document = Bytes::new(alloc);
-        self.words = Vec::new(alloc);
-        for word in words.split(' ').skip(1) {
-            self.words.push(String::from_str(alloc, word)?)?;
+    /// Takes a line outside of a case, which begins one if it names it.
+    fn begin(&mut self, alloc: Global, line: &str) -> Result<Bytes, Memory> {
+        if let Some(words) = line.strip_prefix("@case ") {
+            self.words = words_of(alloc, words)?;
+            self.document = Bytes::new(alloc);
+            self.open = true;
         }
-        Ok(())
-    }
-
-    /// Calls the program, and says its status and what it wrote.
-    fn answer(&self, alloc: Global) -> Result<Bytes, Memory> {
-        let bytes = Bytes::copy_of(alloc, self.document.items())?;
-        let mut source = MemorySource::new(bytes, Calls::new(alloc));
-        let mut sink = MemorySink::new(alloc, ROOM, Calls::new(alloc))?;
-        let mut link = IdleLink::new();
-        let status = firewall(alloc, &self.words, &mut source, &mut sink, &mut link);
-        let mut said = Bytes::copy_of(alloc, b"status ")?;
-        said.append_number(u32::from(status.code()))?;
-        said.push(b'\n')?;
-        said.append(sink.written())?;
-        Ok(said)
-    }
-
-    /// Takes a line of a case, and says what is to be written.
-    fn within(&mut self, alloc: Global, line: &str) -> Result<Bytes, Memory> {
-        if line == "@end" {
-            self.open = false;
-            return self.answer(alloc);
-        }
-        if let Some(len) = line.strip_prefix("@pad ") {
-            pad(&mut self.document, len.parse::<usize>().unwrap_or(0))?;
-        } else if let Some(digits) = line.strip_prefix("@hex ") {
-            let bytes = hex::decode(alloc, digits).unwrap_or(Vec::new(alloc));
-            self.document.append(bytes.as_slice())?;
-        } else {
-            self.document.append(line.as_bytes())?;
-            self.document.push(b'\n')?;
-        }
-        Ok(Bytes::new(alloc))
+        line_of(alloc, line)
     }
 
     /// Takes a line, and says what is to be written.
     pub fn take(&mut self, alloc: Global, line: &str) -> Result<Bytes, Memory> {
-        if self.open {
-            return self.within(alloc, line);
+        if !self.open {
+            return self.begin(alloc, line);
         }
-        if let Some(words) = line.strip_prefix("@case ") {
-            self.begin(alloc, words)?;
+        if line == "@end" {
+            self.open = false;
+            return answer(alloc, &self.words, self.document.items());
         }
-        line_of(alloc, line)
+        add_line(alloc, &mut self.document, line)?;
+        Ok(Bytes::new(alloc))
     }
 }

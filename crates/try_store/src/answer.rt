@@ -1,11 +1,11 @@
 //! What is answered to a line.
 
-use crate::shown::{said, shown_count, shown_replies, shown_view};
+use crate::shown::said;
 use crate::state::{CLIENTS, State};
 use fw_list::{Bytes, Memory};
 use fw_op::{Clients, Op, Start, Words, client_of, number_of};
-use fw_ref::Asked;
 use std::alloc::Global;
+use typed_ref::Asked;
 
 /// The answer to a line: a comment and a blank line are their own.
 pub fn answer(alloc: Global, state: &mut State, line: &str) -> Result<Bytes, Memory> {
@@ -13,7 +13,10 @@ pub fn answer(alloc: Global, state: &mut State, line: &str) -> Result<Bytes, Mem
         return said(alloc, line);
     }
     let mut words = Words::of(line);
-    match answered(alloc, state, &mut words)? {
+    let Some(first) = word(&mut words) else {
+        return said(alloc, "?");
+    };
+    match answered(alloc, state, first, &mut words)? {
         Some(text) => Ok(text),
         None => said(alloc, "?"),
     }
@@ -23,48 +26,46 @@ pub fn answer(alloc: Global, state: &mut State, line: &str) -> Result<Bytes, Mem
 fn answered(
     alloc: Global,
     state: &mut State,
+    first: &str,
     words: &mut Words<'_>,
 ) -> Result<Option<Bytes>, Memory> {
-    let Some(first) = words.next() else {
-        return Ok(None);
-    };
     match first {
-        "new" => {
-            *state = State::new(alloc)?;
-            Ok(Some(said(alloc, "new")?))
-        }
+        "new" => Ok(Some(state.renew(alloc)?)),
         "start" => start(alloc, state, words),
-        "open" => opened(alloc, state),
+        "open" => Ok(Some(state.open(alloc)?)),
         "visible" => visible(alloc, state, words),
         "execute" => execute(alloc, state, words),
         "ask" => ask(alloc, state, words),
-        "reference" => Ok(Some(shown_replies(alloc, state.asked.items())?)),
-        word => apply(alloc, state, word, words),
+        "reference" => Ok(Some(state.reference(alloc)?)),
+        name => apply(alloc, state, name, words),
     }
 }
 
-/// A record for the next store: its owner, key, value and readers.
-fn start(alloc: Global, state: &mut State, words: &mut Words<'_>) -> Result<Option<Bytes>, Memory> {
-    let (Some(owner), Some(key), Some(value)) = (client(words), words.next(), words.next()) else {
-        return Ok(None);
-    };
-    let Some(readers) = clients(alloc, words)? else {
-        return Ok(None);
-    };
-    state.starts.push(Start {
-        owner,
-        key: Bytes::copy_of(alloc, key.as_bytes())?,
-        value: Bytes::copy_of(alloc, value.as_bytes())?,
-        readers,
-    })?;
-    Ok(Some(said(alloc, "start")?))
+/// The next word.
+fn word<'a>(words: &mut Words<'a>) -> Option<&'a str> {
+    words.next()
+}
+
+/// The client that the next word names.
+fn client(words: &mut Words<'_>) -> Option<u32> {
+    client_of(word(words)?, CLIENTS)
+}
+
+/// The stamp that the next word is.
+fn stamp(words: &mut Words<'_>) -> Option<u32> {
+    number_of(word(words)?, 0, u32::MAX)
+}
+
+/// The operation that the words are that are left.
+fn op(alloc: Global, words: &mut Words<'_>) -> Result<Option<Op>, Memory> {
+    Op::from_words(alloc, 8, words)
 }
 
 /// The clients that are left, or none where a word is none; no more are read than a line may name.
 fn clients(alloc: Global, words: &mut Words<'_>) -> Result<Option<Clients>, Memory> {
     let mut all = Clients::new(alloc);
     for _ in 0..CLIENTS {
-        let Some(word) = words.next() else {
+        let Some(word) = word(words) else {
             return Ok(Some(all));
         };
         match client_of(word, CLIENTS) {
@@ -75,28 +76,45 @@ fn clients(alloc: Global, words: &mut Words<'_>) -> Result<Option<Clients>, Memo
     Ok(None)
 }
 
-/// A store of the records that were given: how many it has.
-fn opened(alloc: Global, state: &mut State) -> Result<Option<Bytes>, Memory> {
-    if state.open(alloc)? {
-        let count = state.store.len();
-        if count == state.store.records().len() {
-            return Ok(Some(shown_count(alloc, count)?));
-        }
-    }
-    Ok(Some(said(alloc, "two records have one name")?))
+/// An owner, a key and a value.
+fn front<'a>(words: &mut Words<'a>) -> Option<(u32, &'a str, &'a str)> {
+    Some((client(words)?, word(words)?, word(words)?))
+}
+
+/// A record.
+fn record(
+    alloc: Global,
+    owner: u32,
+    key: &str,
+    value: &str,
+    readers: Clients,
+) -> Result<Start, Memory> {
+    Ok(Start {
+        owner,
+        key: Bytes::copy_of(alloc, key.as_bytes())?,
+        value: Bytes::copy_of(alloc, value.as_bytes())?,
+        readers,
+    })
+}
+
+/// A record for the next store: its owner, key, value and readers.
+fn start(alloc: Global, state: &mut State, words: &mut Words<'_>) -> Result<Option<Bytes>, Memory> {
+    let Some((owner, key, value)) = front(words) else {
+        return Ok(None);
+    };
+    let Some(readers) = clients(alloc, words)? else {
+        return Ok(None);
+    };
+    state
+        .starts
+        .push(record(alloc, owner, key, value, readers)?)?;
+    Ok(Some(said(alloc, "start")?))
 }
 
 /// The records that a client is shown.
-fn visible(
-    alloc: Global,
-    state: &mut State,
-    words: &mut Words<'_>,
-) -> Result<Option<Bytes>, Memory> {
+fn visible(alloc: Global, state: &State, words: &mut Words<'_>) -> Result<Option<Bytes>, Memory> {
     match client(words) {
-        Some(client) => {
-            let view = state.store.visible(client)?;
-            Ok(Some(shown_view(alloc, view.items())?))
-        }
+        Some(client) => Ok(Some(state.visible(alloc, client)?)),
         None => Ok(None),
     }
 }
@@ -105,17 +123,32 @@ fn visible(
 fn apply(
     alloc: Global,
     state: &mut State,
-    word: &str,
+    name: &str,
     words: &mut Words<'_>,
 ) -> Result<Option<Bytes>, Memory> {
-    let Some(client) = client_of(word, CLIENTS) else {
+    let Some(client) = client_of(name, CLIENTS) else {
         return Ok(None);
     };
-    let Some(op) = Op::from_words(alloc, 8, words)? else {
+    match op(alloc, words)? {
+        Some(op) => Ok(Some(state.apply(alloc, client, &op)?)),
+        None => Ok(None),
+    }
+}
+
+/// A client and a stamp.
+fn caller(words: &mut Words<'_>) -> Option<(u32, u32)> {
+    Some((client(words)?, stamp(words)?))
+}
+
+/// A client, a stamp and an operation.
+fn request(alloc: Global, words: &mut Words<'_>) -> Result<Option<Asked>, Memory> {
+    let Some((client, stamp)) = caller(words) else {
         return Ok(None);
     };
-    let reply = state.store.apply(client, &op)?;
-    Ok(Some(reply.words(alloc)?))
+    match op(alloc, words)? {
+        Some(op) => Ok(Some(Asked { client, stamp, op })),
+        None => Ok(None),
+    }
 }
 
 /// The reply of the replica to a client's operation under a stamp.
@@ -125,10 +158,7 @@ fn execute(
     words: &mut Words<'_>,
 ) -> Result<Option<Bytes>, Memory> {
     match request(alloc, words)? {
-        Some(asked) => {
-            let reply = state.replica.execute(asked.client, asked.stamp, &asked.op)?;
-            Ok(Some(reply.words(alloc)?))
-        }
+        Some(asked) => Ok(Some(state.execute(alloc, &asked)?)),
         None => Ok(None),
     }
 }
@@ -136,33 +166,7 @@ fn execute(
 /// A request for the list that the reference answers.
 fn ask(alloc: Global, state: &mut State, words: &mut Words<'_>) -> Result<Option<Bytes>, Memory> {
     match request(alloc, words)? {
-        Some(asked) => {
-            state.asked.push(asked.copy(alloc)?)?;
-            Ok(Some(said(alloc, "ask")?))
-        }
+        Some(asked) => Ok(Some(state.ask(alloc, &asked)?)),
         None => Ok(None),
     }
-}
-
-/// A client, a stamp and an operation.
-fn request(alloc: Global, words: &mut Words<'_>) -> Result<Option<Asked>, Memory> {
-    let Some(client) = client(words) else {
-        return Ok(None);
-    };
-    let Some(word) = words.next() else {
-        return Ok(None);
-    };
-    let Some(stamp) = number_of(word, 0, u32::MAX) else {
-        return Ok(None);
-    };
-    match Op::from_words(alloc, 8, words)? {
-        Some(op) => Ok(Some(Asked { client, stamp, op })),
-        None => Ok(None),
-    }
-}
-
-/// The client that the next word names.
-fn client(words: &mut Words<'_>) -> Option<u32> {
-    let word = words.next()?;
-    client_of(word, CLIENTS)
 }

@@ -1,10 +1,11 @@
-//! What the lines so far have made.
+//! What the lines so far have made. Each step says what is printed for it.
 
-use fw_list::{Items, Memory};
-use fw_op::Starts;
-use fw_ref::{Asked, Replica};
+use crate::shown::{said, shown_count, shown_replies, shown_view};
+use fw_list::{Bytes, Items, Memory};
+use fw_op::{Op, Starts};
 use fw_store::{Store, are_distinct};
 use std::alloc::Global;
+use typed_ref::{Asked, Replica};
 
 /// The clients that a line may name: two more than there are, so that a case can ask for one that isn't there.
 pub const CLIENTS: u32 = 10;
@@ -13,9 +14,9 @@ pub const CLIENTS: u32 = 10;
 #[derive(Drop)]
 pub struct State {
     pub starts: Starts,
-    pub store: Store,
-    pub replica: Replica,
-    pub asked: Items<Asked>,
+    store: Store,
+    replica: Replica,
+    asked: Items<Asked>,
 }
 
 impl State {
@@ -29,12 +30,59 @@ impl State {
         })
     }
 
-    /// Makes a store of the records that were given, unless two have one name.
-    pub fn open(&mut self, alloc: Global) -> Result<bool, Memory> {
-        if !are_distinct(self.starts.items()) {
-            return Ok(false);
+    /// Begins anew.
+    pub fn renew(&mut self, alloc: Global) -> Result<Bytes, Memory> {
+        *self = State::new(alloc)?;
+        said(alloc, "new")
+    }
+
+    /// How many records the store has, if its list has as many.
+    fn count(&self) -> Option<usize> {
+        let count = self.store.len();
+        if count == self.store.records().len() {
+            Some(count)
+        } else {
+            None
         }
-        self.store = Store::new(alloc, self.starts.items())?;
-        Ok(true)
+    }
+
+    /// Makes a store of the records that were given, unless two have one name: how many it has.
+    pub fn open(&mut self, alloc: Global) -> Result<Bytes, Memory> {
+        if are_distinct(self.starts.items()) {
+            self.store = Store::new(alloc, self.starts.items())?;
+            if let Some(count) = self.count() {
+                return shown_count(alloc, count);
+            }
+        }
+        said(alloc, "two records have one name")
+    }
+
+    /// The records that a client is shown.
+    pub fn visible(&self, alloc: Global, client: u32) -> Result<Bytes, Memory> {
+        let view = self.store.visible(client)?;
+        shown_view(alloc, view.items())
+    }
+
+    /// The reply of the store.
+    pub fn apply(&mut self, alloc: Global, client: u32, op: &Op) -> Result<Bytes, Memory> {
+        let reply = self.store.apply(client, op)?;
+        reply.words(alloc)
+    }
+
+    /// The reply of the replica.
+    pub fn execute(&mut self, alloc: Global, asked: &Asked) -> Result<Bytes, Memory> {
+        let reply = self.replica.execute(asked.client, asked.stamp, &asked.op)?;
+        reply.words(alloc)
+    }
+
+    /// Adds to the list of the reference.
+    pub fn ask(&mut self, alloc: Global, asked: &Asked) -> Result<Bytes, Memory> {
+        self.asked.push(asked.copy(alloc)?)?;
+        said(alloc, "ask")
+    }
+
+    /// The answers of the reference to its list.
+    pub fn reference(&self, alloc: Global) -> Result<Bytes, Memory> {
+        shown_replies(alloc, self.asked.items())
     }
 }

@@ -1,13 +1,13 @@
 //! Hand files that are written, read and written again, and values that are shown.
 
-ghost use Rattle.std.specs.Prelude.{IfOk, IsTrue};
+ghost use Rattle.std.specs.Prelude.{IsTrue};
 ghost use Rattle.fw_base.specs.Sizes.{accepted};
 ghost use Rattle.fw_base.specs.Seats.{fits};
 
 use fw_base::{Params, Place, Seat, Slot};
 use fw_deal::{Deal, deal_file, read_hand, write_hand};
 use fw_frame::{Carried, Shown};
-use fw_list::{Bytes, Memory};
+use fw_list::Memory;
 use fw_valid::shown;
 use std::alloc::Global;
 
@@ -67,14 +67,11 @@ fn shown_of(alloc: Global, deal: &Deal) -> Result<usize, Memory> {
 }
 
 /// A line that says of how many seats the hand file is read again, and how many of two values are shown.
-pub fn told_hands(alloc: Global, params: &Params, deal: &Deal) -> Result<Bytes, Memory>
+pub fn told_hands(alloc: Global, params: &Params, deal: &Deal) -> Result<String, Memory>
     requires { IsTrue (accepted params.now) }
 {
     let count = read_again(alloc, params)?;
     let seats = params.seats();
     let shown = shown_of(alloc, deal)?;
-    let text = format!(in alloc;
-        "{count} of {seats} hand files read again, {shown} of 2 values shown\n"
-    )?;
-    Bytes::copy_of(alloc, text.as_bytes())
+    Ok(format!(in alloc; "{count} of {seats} hand files read again, {shown} of 2 values shown\n")?)
 }

@@ -1,5 +1,6 @@
 //! Fields of bytes.
 
+use crate::spelling::said;
 use fw_list::Memory;
 use fw_wire::{Reader, Writer};
 use std::alloc::Global;
@@ -16,18 +17,18 @@ fn step(alloc: Global, reader: &mut Reader<'_>, word: &str) -> Result<String, Me
     };
     match number {
         Some(n) => Ok(format!(in alloc; "{n}")?),
-        None => Ok(String::from_str(alloc, "none")?),
+        None => said(alloc, "none"),
     }
 }
 
 /// So many bytes.
 fn part(alloc: Global, reader: &mut Reader<'_>, word: &str) -> Result<String, Memory> {
     let Ok(len) = word.parse::<usize>() else {
-        return Ok(String::from_str(alloc, "no step")?);
+        return said(alloc, "no step");
     };
     match reader.fixed(len) {
         Some(bytes) => Ok(hex::encode(alloc, bytes)?),
-        None => Ok(String::from_str(alloc, "none")?),
+        None => said(alloc, "none"),
     }
 }
 
@@ -35,7 +36,7 @@ fn part(alloc: Global, reader: &mut Reader<'_>, word: &str) -> Result<String, Me
 pub fn read(alloc: Global, line: &str) -> Result<String, Memory> {
     let mut words = line.split(' ');
     let Some(Ok(bytes)) = words.next().map(|word| hex::decode(alloc, word)) else {
-        return Ok(String::from_str(alloc, "no bytes")?);
+        return said(alloc, "no bytes");
     };
     let mut reader = Reader::new(bytes.as_slice());
     let mut text = String::new(alloc);

@@ -1,44 +1,60 @@
 //! Replies in words and in bytes.
 
-use crate::ops::{marked, shown};
+ghost use Rattle.std.specs.Prelude.{IsTrue};
+ghost use Rattle.fw_op.specs.Replies.{reply_fits};
+
+use crate::spelling::{Spelling, digits, said, shown};
 use fw_list::Memory;
 use fw_op::{Reply, Words};
 use std::alloc::Global;
 
-/// The bytes of the reply of this text.
-pub fn from_text(alloc: Global, text: &str) -> Result<String, Memory> {
-    let Some(reply) = Reply::read_words(alloc, text)? else {
-        return Ok(String::from_str(alloc, "none")?);
-    };
-    let again = reply.words(alloc)?;
-    let is_same = again.items() == text.as_bytes();
+/// The words of a reply's copy.
+fn words_of(alloc: Global, reply: &Reply) -> Result<String, Memory> {
+    let copy = reply.copy(alloc)?;
+    shown(alloc, &copy.words(alloc)?)
+}
+
+/// The digits of a reply.
+fn digits_of(alloc: Global, reply: &Reply) -> Result<String, Memory>
+    requires { IsTrue (reply_fits 8 reply.now) }
+{
     if matches!(reply, Reply::Null) {
-        return marked(alloc, "without bytes", is_same);
+        return said(alloc, "without bytes");
     }
-    let bytes = reply.copy(alloc)?.bytes(alloc)?;
-    let answer = hex::encode(alloc, bytes.items())?;
-    marked(alloc, answer.as_str(), is_same)
+    digits(alloc, &reply.bytes(alloc)?)
 }
 
-/// The text of the reply of these bytes.
-pub fn from_hex(alloc: Global, line: &str) -> Result<String, Memory> {
-    let Ok(bytes) = hex::decode(alloc, line) else {
-        return Ok(String::from_str(alloc, "no bytes")?);
-    };
-    let Some(reply) = Reply::read_bytes(alloc, bytes.as_slice())? else {
-        return Ok(String::from_str(alloc, "none")?);
-    };
-    let again = reply.bytes(alloc)?;
-    let answer = shown(alloc, &reply.copy(alloc)?.words(alloc)?)?;
-    marked(alloc, answer.as_str(), again.items() == bytes.as_slice())
+/// A reply in words and in digits.
+fn spelling(alloc: Global, reply: &Reply) -> Result<Option<Spelling>, Memory>
+    requires { IsTrue (reply_fits 8 reply.now) }
+{
+    Ok(Some(Spelling {
+        words: words_of(alloc, reply)?,
+        digits: digits_of(alloc, reply)?,
+    }))
 }
 
-/// The reply of a line `CLIENTS WORD ..`, read where there are so many clients.
-pub fn from_words(alloc: Global, line: &str) -> Result<String, Memory> {
-    let (clients, text) = line.split_once(' ').unwrap_or(("0", line));
+/// The reply of this text.
+pub fn of_text(alloc: Global, text: &str) -> Result<Option<Spelling>, Memory> {
+    match Reply::read_words(alloc, text)? {
+        Some(reply) => spelling(alloc, &reply),
+        None => Ok(None),
+    }
+}
+
+/// The reply of these bytes.
+pub fn of_bytes(alloc: Global, bytes: &[u8]) -> Result<Option<Spelling>, Memory> {
+    match Reply::read_bytes(alloc, bytes)? {
+        Some(reply) => spelling(alloc, &reply),
+        None => Ok(None),
+    }
+}
+
+/// The reply of these words, read where there are so many clients.
+pub fn of_clients(alloc: Global, clients: u32, text: &str) -> Result<Option<String>, Memory> {
     let mut words = Words::of(text);
-    match Reply::from_words(alloc, clients.parse::<u32>().unwrap_or(0), &mut words)? {
-        Some(reply) => shown(alloc, &reply.words(alloc)?),
-        None => Ok(String::from_str(alloc, "none")?),
+    match Reply::from_words(alloc, clients, &mut words)? {
+        Some(reply) => Ok(Some(words_of(alloc, &reply)?)),
+        None => Ok(None),
     }
 }

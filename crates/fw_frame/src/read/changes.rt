@@ -6,7 +6,8 @@ ghost use Rattle.fw_list.specs.Numbers.{within};
 ghost use Rattle.fw_base.specs.Sizes.{accepted, quorum};
 ghost use Rattle.fw_frame.specs.Plain.{plain_change};
 ghost use Rattle.fw_frame.specs.Ranges.{change_fits, changes_fit};
-ghost use Rattle.fw_frame.specs.Reading.{Finds, list_fits};
+ghost use Rattle.fw_wire.specs.Reading.{FindsWhere};
+ghost use Rattle.fw_frame.specs.Reading.{list_fits};
 ghost use Rattle.fw_frame.specs.Spelling.{change_bytes, changes_bytes};
 ghost use Rattle.fw_frame.specs.Needing.{StartsItem, StartsChange, StartsChanges};
 
@@ -30,7 +31,7 @@ pub fn change<'a>(
     requires accepted { IsTrue (accepted params.now) }
     requires low { 0 < low }
     requires high { high < params.now.views }
-    ensures found { IfOk result (λ found. Finds change_bytes (λ c. nat_le least c.agree && (within low c.view high && change_fits params.now c)) reader.old (option_map plain_change found) reader.new) }
+    ensures found { IfOk result (λ found. FindsWhere change_bytes (λ c. nat_le least c.agree && (within low c.view high && change_fits params.now c)) reader.old (option_map plain_change found) reader.new) }
     ensures memory { OnErr result (StartsChange params.now low high reader.old) }
 {
     let Some(view) = number(reader, low, high) else {
@@ -64,7 +65,7 @@ fn change_to<'a>(
     requires accepted { IsTrue (accepted params.now) }
     requires low { 0 < view }
     requires high { view < params.now.views }
-    ensures found { IfOk result (λ found. Finds change_bytes (λ c. nat_le least c.agree && (nat_eq c.view view && change_fits params.now c)) reader.old (option_map plain_change found) reader.new) }
+    ensures found { IfOk result (λ found. FindsWhere change_bytes (λ c. nat_le least c.agree && (nat_eq c.view view && change_fits params.now c)) reader.old (option_map plain_change found) reader.new) }
     ensures memory { OnErr result (StartsChange params.now view view reader.old) }
 {
     change(alloc, params, reader, view, view, least)
@@ -81,7 +82,7 @@ fn change_list<'a>(
     requires accepted { IsTrue (accepted params.now) }
     requires low { 0 < view }
     requires high { view < params.now.views }
-    ensures found { IfOk result (λ found. Finds (flat_map change_bytes) (list_fits (λ c. c.agree) (λ c. nat_eq c.view view && change_fits params.now c) count) reader.old (option_map (map plain_change) found) reader.new) }
+    ensures found { IfOk result (λ found. FindsWhere (flat_map change_bytes) (list_fits (λ c. c.agree) (λ c. nat_eq c.view view && change_fits params.now c) count) reader.old (option_map (map plain_change) found) reader.new) }
     ensures memory { OnErr result (StartsItem change_bytes (λ c. nat_eq c.view view && change_fits params.now c) (StartsChange params.now view view) reader.old) }
 {
     let mut changes = ChangeList::new(alloc);
@@ -106,7 +107,7 @@ pub fn changes<'a>(
     requires accepted { IsTrue (accepted params.now) }
     requires low { 0 < view }
     requires high { view < params.now.views }
-    ensures found { IfOk result (λ found. Finds changes_bytes (changes_fit params.now view) reader.old (option_map (map plain_change) found) reader.new) }
+    ensures found { IfOk result (λ found. FindsWhere changes_bytes (changes_fit params.now view) reader.old (option_map (map plain_change) found) reader.new) }
     ensures memory { OnErr result (StartsChanges params.now view reader.old) }
 {
     let quorum = params.quorum();

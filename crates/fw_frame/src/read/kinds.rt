@@ -4,7 +4,8 @@ ghost use Rattle.std.specs.Prelude.{◌≡◌, ◌-◌, IsTrue, ◌&&◌, ◌||�
 ghost use Rattle.std.specs.List.{list_all};
 ghost use Rattle.fw_base.specs.Sizes.{accepted};
 ghost use Rattle.fw_frame.specs.Plain.{plain};
-ghost use Rattle.fw_frame.specs.Reading.{Finds, kind_fits, fields_bytes, answer_bytes, answered_fits};
+ghost use Rattle.fw_wire.specs.Reading.{FindsWhere};
+ghost use Rattle.fw_frame.specs.Reading.{kind_fits, fields_bytes, answer_bytes, answered_fits};
 ghost use Rattle.fw_frame.specs.declared.read.kinds.Answered.{Answered};
 ghost use Rattle.fw_frame.specs.Needing.{StartsChange, StartsNewView, StartsAgreed};
 
@@ -24,7 +25,7 @@ const DIGEST: usize = 32;
 /// The fields of a request.
 pub fn request<'a>(params: &Params, reader: &mut Reader<'a>) -> Option<Frame<'a>>
     requires { IsTrue (accepted params.now) }
-    ensures { Finds fields_bytes (kind_fits params.now 1) reader.old (option_map plain result) reader.new }
+    ensures { FindsWhere fields_bytes (kind_fits params.now 1) reader.old (option_map plain result) reader.new }
 {
     let request = one_request(params, reader)?;
     Some(Frame::Request(request))
@@ -33,7 +34,7 @@ pub fn request<'a>(params: &Params, reader: &mut Reader<'a>) -> Option<Frame<'a>
 /// The fields of a proposal.
 pub fn propose<'a>(params: &Params, reader: &mut Reader<'a>) -> Option<Frame<'a>>
     requires { IsTrue (accepted params.now) }
-    ensures { Finds fields_bytes (kind_fits params.now 2) reader.old (option_map plain result) reader.new }
+    ensures { FindsWhere fields_bytes (kind_fits params.now 2) reader.old (option_map plain result) reader.new }
 {
     let view = below(reader, params.views)?;
     let number = number(reader, 1, params.numbers)?;
@@ -50,7 +51,7 @@ pub fn propose<'a>(params: &Params, reader: &mut Reader<'a>) -> Option<Frame<'a>
 /// The fields of a vote.
 pub fn vote<'a>(params: &Params, reader: &mut Reader<'a>) -> Option<Frame<'a>>
     requires { IsTrue (accepted params.now) }
-    ensures { Finds fields_bytes (kind_fits params.now 3) reader.old (option_map plain result) reader.new }
+    ensures { FindsWhere fields_bytes (kind_fits params.now 3) reader.old (option_map plain result) reader.new }
 {
     let phase = at_most(reader, 1)?;
     let view = below(reader, params.views)?;
@@ -75,7 +76,7 @@ pub fn change<'a>(
     reader: &mut Reader<'a>,
 ) -> Result<Option<Frame<'a>>, Memory>
     requires { IsTrue (accepted params.now) }
-    ensures found { IfOk result (λ found. Finds fields_bytes (kind_fits params.now 4) reader.old (option_map plain found) reader.new) }
+    ensures found { IfOk result (λ found. FindsWhere fields_bytes (kind_fits params.now 4) reader.old (option_map plain found) reader.new) }
     ensures memory { OnErr result (StartsChange params.now 1 (params.now.views - 1) reader.old) }
 {
     let Some(change) = one_change(alloc, params, reader, 1, params.views - 1, 0)? else {
@@ -91,7 +92,7 @@ pub fn new_view<'a>(
     reader: &mut Reader<'a>,
 ) -> Result<Option<Frame<'a>>, Memory>
     requires { IsTrue (accepted params.now) }
-    ensures found { IfOk result (λ found. Finds fields_bytes (kind_fits params.now 5) reader.old (option_map plain found) reader.new) }
+    ensures found { IfOk result (λ found. FindsWhere fields_bytes (kind_fits params.now 5) reader.old (option_map plain found) reader.new) }
     ensures memory { OnErr result (StartsNewView params.now reader.old) }
 {
     let Some(view) = begun(params, reader) else {
@@ -113,7 +114,7 @@ pub fn agreed<'a>(
     reader: &mut Reader<'a>,
 ) -> Result<Option<Frame<'a>>, Memory>
     requires { IsTrue (accepted params.now) }
-    ensures found { IfOk result (λ found. Finds fields_bytes (kind_fits params.now 6) reader.old (option_map plain found) reader.new) }
+    ensures found { IfOk result (λ found. FindsWhere fields_bytes (kind_fits params.now 6) reader.old (option_map plain found) reader.new) }
     ensures memory { OnErr result (StartsAgreed params.now reader.old) }
 {
     let Some(view) = below(reader, params.views) else {
@@ -166,7 +167,7 @@ fn is_whole(client: u32, stamp: u32, body: &[u8]) -> bool
 /// A client, a stamp and a body: those of a request, or all zero.
 fn answer<'a>(params: &Params, reader: &mut Reader<'a>) -> Option<Answered<'a>>
     requires { IsTrue (accepted params.now) }
-    ensures { Finds answer_bytes (answered_fits params.now) reader.old (option_map (λ a. (a.client, (a.stamp, a.body.now))) result) reader.new }
+    ensures { FindsWhere answer_bytes (answered_fits params.now) reader.old (option_map (λ a. (a.client, (a.stamp, a.body.now))) result) reader.new }
 {
     let client = below(reader, params.clients)?;
     let stamp = at_most(reader, params.stamps)?;
@@ -184,7 +185,7 @@ fn answer<'a>(params: &Params, reader: &mut Reader<'a>) -> Option<Answered<'a>>
 /// The fields of an executor's share.
 pub fn share<'a>(params: &Params, reader: &mut Reader<'a>) -> Option<Frame<'a>>
     requires { IsTrue (accepted params.now) }
-    ensures { Finds fields_bytes (kind_fits params.now 7) reader.old (option_map plain result) reader.new }
+    ensures { FindsWhere fields_bytes (kind_fits params.now 7) reader.old (option_map plain result) reader.new }
 {
     let number = number(reader, 1, params.numbers)?;
     let exec = executor(params, reader)?;
@@ -203,7 +204,7 @@ pub fn share<'a>(params: &Params, reader: &mut Reader<'a>) -> Option<Frame<'a>>
 /// The fields of a reply.
 pub fn reply<'a>(params: &Params, reader: &mut Reader<'a>) -> Option<Frame<'a>>
     requires { IsTrue (accepted params.now) }
-    ensures { Finds fields_bytes (kind_fits params.now 8) reader.old (option_map plain result) reader.new }
+    ensures { FindsWhere fields_bytes (kind_fits params.now 8) reader.old (option_map plain result) reader.new }
 {
     let number = number(reader, 1, params.numbers)?;
     let to = answer(params, reader)?;
@@ -219,7 +220,7 @@ pub fn reply<'a>(params: &Params, reader: &mut Reader<'a>) -> Option<Frame<'a>>
 
 /// The field of a want.
 pub fn want<'a>(params: &Params, reader: &mut Reader<'a>) -> Option<Frame<'a>>
-    ensures { Finds fields_bytes (kind_fits params.now 9) reader.old (option_map plain result) reader.new }
+    ensures { FindsWhere fields_bytes (kind_fits params.now 9) reader.old (option_map plain result) reader.new }
 {
     let number = number(reader, 1, params.numbers)?;
     Some(Frame::Want { number })

@@ -6,7 +6,8 @@ ghost use Rattle.fw_list.specs.Numbers.{within};
 ghost use Rattle.fw_base.specs.Sizes.{accepted, quorum};
 ghost use Rattle.fw_frame.specs.Plain.{plain_proof};
 ghost use Rattle.fw_frame.specs.Ranges.{proof_fits, proofs_fit};
-ghost use Rattle.fw_frame.specs.Reading.{Finds, list_fits};
+ghost use Rattle.fw_wire.specs.Reading.{FindsWhere};
+ghost use Rattle.fw_frame.specs.Reading.{list_fits};
 ghost use Rattle.fw_frame.specs.Spelling.{proof_bytes, proofs_bytes};
 ghost use Rattle.fw_frame.specs.Needing.{StartsItem, StartsProof, StartsProofs};
 
@@ -30,7 +31,7 @@ fn proof<'a>(
     requires accepted { IsTrue (accepted params.now) }
     requires view { 0 < view }
     requires least { 1 ≤ least }
-    ensures found { IfOk result (λ found. Finds proof_bytes (λ q. nat_le least q.number && proof_fits params.now view q) reader.old (option_map plain_proof found) reader.new) }
+    ensures found { IfOk result (λ found. FindsWhere proof_bytes (λ q. nat_le least q.number && proof_fits params.now view q) reader.old (option_map plain_proof found) reader.new) }
     ensures memory { OnErr result (StartsProof params.now view reader.old) }
 {
     let Some(earlier) = below(reader, view) else {
@@ -63,7 +64,7 @@ fn proof_list<'a>(
 ) -> Result<Option<ProofList<'a>>, Memory>
     requires accepted { IsTrue (accepted params.now) }
     requires view { 0 < view }
-    ensures found { IfOk result (λ found. Finds (flat_map proof_bytes) (list_fits (λ q. q.number) (proof_fits params.now view) count) reader.old (option_map (map plain_proof) found) reader.new) }
+    ensures found { IfOk result (λ found. FindsWhere (flat_map proof_bytes) (list_fits (λ q. q.number) (proof_fits params.now view) count) reader.old (option_map (map plain_proof) found) reader.new) }
     ensures memory { OnErr result (StartsItem proof_bytes (proof_fits params.now view) (StartsProof params.now view) reader.old) }
 {
     let mut proofs = ProofList::new(alloc);
@@ -87,7 +88,7 @@ pub fn proofs<'a>(
 ) -> Result<Option<ProofList<'a>>, Memory>
     requires accepted { IsTrue (accepted params.now) }
     requires view { 0 < view }
-    ensures found { IfOk result (λ found. Finds proofs_bytes (proofs_fit params.now view) reader.old (option_map (map plain_proof) found) reader.new) }
+    ensures found { IfOk result (λ found. FindsWhere proofs_bytes (proofs_fit params.now view) reader.old (option_map (map plain_proof) found) reader.new) }
     ensures memory { OnErr result (StartsProofs params.now view reader.old) }
 {
     let Some(count) = at_most(reader, params.numbers) else {

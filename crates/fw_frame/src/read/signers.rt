@@ -6,7 +6,8 @@ ghost use Rattle.fw_list.specs.Numbers.{within};
 ghost use Rattle.fw_base.specs.Sizes.{accepted, quorum};
 ghost use Rattle.fw_frame.specs.Plain.{plain_signer};
 ghost use Rattle.fw_frame.specs.Ranges.{signer_fits, signers_fit};
-ghost use Rattle.fw_frame.specs.Reading.{Finds, list_fits};
+ghost use Rattle.fw_wire.specs.Reading.{FindsWhere};
+ghost use Rattle.fw_frame.specs.Reading.{list_fits};
 ghost use Rattle.fw_frame.specs.Spelling.{signer_bytes, signers_bytes};
 ghost use Rattle.fw_frame.specs.Needing.{Begins, Anything, StartsSigners};
 
@@ -20,7 +21,7 @@ use std::alloc::Global;
 /// The signature of a node, from one on.
 fn signer<'a>(params: &Params, reader: &mut Reader<'a>, least: u32) -> Option<Signer<'a>>
     requires { IsTrue (accepted params.now) }
-    ensures { Finds signer_bytes (λ s. nat_le least s.agree && signer_fits params.now s) reader.old (option_map plain_signer result) reader.new }
+    ensures { FindsWhere signer_bytes (λ s. nat_le least s.agree && signer_fits params.now s) reader.old (option_map plain_signer result) reader.new }
 {
     let agree = node(params, reader, least)?;
     let sig = part(reader, SIGNATURE_LEN)?;
@@ -35,7 +36,7 @@ fn signer_list<'a>(
     count: u32,
 ) -> Result<Option<Signers<'a>>, Memory>
     requires { IsTrue (accepted params.now) }
-    ensures found { IfOk result (λ found. Finds (flat_map signer_bytes) (list_fits (λ s. s.agree) (signer_fits params.now) count) reader.old (option_map (map plain_signer) found) reader.new) }
+    ensures found { IfOk result (λ found. FindsWhere (flat_map signer_bytes) (list_fits (λ s. s.agree) (signer_fits params.now) count) reader.old (option_map (map plain_signer) found) reader.new) }
     ensures memory { OnErr result (Begins signer_bytes (signer_fits params.now) Anything reader.old) }
 {
     let mut signers = Signers::new(alloc);
@@ -57,7 +58,7 @@ pub fn signers<'a>(
     reader: &mut Reader<'a>,
 ) -> Result<Option<Signers<'a>>, Memory>
     requires { IsTrue (accepted params.now) }
-    ensures found { IfOk result (λ found. Finds signers_bytes (signers_fit params.now) reader.old (option_map (map plain_signer) found) reader.new) }
+    ensures found { IfOk result (λ found. FindsWhere signers_bytes (signers_fit params.now) reader.old (option_map (map plain_signer) found) reader.new) }
     ensures memory { OnErr result (StartsSigners params.now reader.old) }
 {
     let quorum = params.quorum();

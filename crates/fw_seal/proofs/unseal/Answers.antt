@@ -1,9 +1,10 @@
 use Rattle.std.proofs.Common.{◌≡◌, ◌≢◌, ◌∙◌, ℕ, List, length, take, drop, refl, sym, ap, arith, inl, inr, false, subst, Some}
-use Rattle.std.specs.Prelude.{is_some}
+use Rattle.std.specs.Prelude.{is_some, option_map, replicate}
 use Rattle.std.proofs.lemmas.List.{length-take-le, length-drop, take_all}
 use Rattle.std.specs.Bool.{IsTrue}
 use Rattle.fw_seal.specs.Seal.{tag_of, IsSpoiled, Opens}
 use Rattle.fw_seal.proofs.Bodies.{length-masked, last_part, tag_of_opened, spoiled_opens_never, opens_to, opens_once, zeros_behind}
+use Rattle.fw_seal.proofs.Opened.{opened_from_opens, opened_never}
 use Rattle.fw_seal.proofs.unseal.Goals as goal
 
 -- the tag is another
@@ -17,6 +18,9 @@ returns-then-not-are_same-clause-only c = λ text opens. absurd (differs c (tag_
 pub returns-then-not-are_same-clause-none : goal.returns-then-not-are_same-clause-none
 returns-then-not-are_same-clause-none c = λ text opens. differs c (tag_of_opened _ _ _ _ _ text opens)
 
+pub returns-then-not-are_same-clause-value : goal.returns-then-not-are_same-clause-value
+returns-then-not-are_same-clause-value c = opened_never _ _ _ _ c.args.body.now.bytes (returns-then-not-are_same-clause-none c)
+
 pub returns-then-not-are_same-clause-cause : goal.returns-then-not-are_same-clause-cause
 returns-then-not-are_same-clause-cause c = (λ _. inl (differs c), λ _. refl)
 
@@ -29,6 +33,10 @@ returns-in_err-len-clause-only c = λ text opens. absurd (opens_never c text ope
 
 pub returns-in_err-len-clause-none : goal.returns-in_err-len-clause-none
 returns-in_err-len-clause-none c = rw c.from_residual.ensures (opens_never c)
+
+pub returns-in_err-len-clause-value : goal.returns-in_err-len-clause-value
+returns-in_err-len-clause-value c =
+    opened_never _ _ _ _ c.args.body.now.bytes (opens_never c) ∙ sym (ap (option_map (λ len. take len (replicate 510 0))) c.from_residual.ensures)
 
 pub returns-in_err-len-clause-cause : goal.returns-in_err-len-clause-cause
 returns-in_err-len-clause-cause c =
@@ -66,6 +74,9 @@ returns-clause-only c = λ text opens.
     let one : take c.in_ok-len.len c.copy_from_slice.new.self ≡ text = opens_once _ _ _ _ c.args.body.now.bytes _ text (returns-clause-found c) opens in
     let len : c.in_ok-len.len ≡ length text = (found c).length ∙ ap length (sym (ap (take c.in_ok-len.len) (found c).out) ∙ one) in
     (ap Some len, ap (λ (n : ℕ). take n c.copy_from_slice.new.self) (sym len) ∙ one)
+
+pub returns-clause-value : goal.returns-clause-value
+returns-clause-value c = opened_from_opens _ _ _ _ c.args.body.now.bytes _ (returns-clause-found c)
 
 pub returns-clause-cause : goal.returns-clause-cause
 returns-clause-cause c = (

@@ -40,24 +40,41 @@ pub fn texts(alloc: Global, frame: &Frame<'_>) -> Result<Option<String>, Memory>
     Ok(Some(line))
 }
 
+/// Adds a sign and a number.
+fn add_number(alloc: Global, line: &mut String, sign: char, number: u32) -> Result<(), Memory> {
+    line.push(sign)?;
+    line.push_str(format!(in alloc; "{number}")?.as_str())?;
+    Ok(())
+}
+
+/// A name, numbers and a point.
+fn named(alloc: Global, name: &str, numbers: &[u32], point: u32) -> Result<String, Memory> {
+    let mut text = String::from_str(alloc, name)?;
+    for number in numbers {
+        add_number(alloc, &mut text, '-', *number)?;
+    }
+    add_number(alloc, &mut text, ':', point)?;
+    Ok(text)
+}
+
 /// A slot as its kind and its numbers, and a point.
 fn slot_text(alloc: Global, slot: Slot, point: u32) -> Result<String, Memory> {
-    Ok(match slot {
+    match slot {
         Slot::Prepare {
             view,
             number,
             agree,
-        } => format!(in alloc; "prepare-{view}-{number}-{agree}:{point}")?,
+        } => named(alloc, "prepare", &[view, number, agree], point),
         Slot::Commit {
             view,
             number,
             agree,
-        } => format!(in alloc; "commit-{view}-{number}-{agree}:{point}")?,
-        Slot::Change { view, agree } => format!(in alloc; "change-{view}-{agree}:{point}")?,
-        Slot::NewView { view, agree } => format!(in alloc; "new-view-{view}-{agree}:{point}")?,
-        Slot::Request { client, stamp } => format!(in alloc; "request-{client}-{stamp}:{point}")?,
-        Slot::Reply { number } => format!(in alloc; "reply-{number}:{point}")?,
-    })
+        } => named(alloc, "commit", &[view, number, agree], point),
+        Slot::Change { view, agree } => named(alloc, "change", &[view, agree], point),
+        Slot::NewView { view, agree } => named(alloc, "new-view", &[view, agree], point),
+        Slot::Request { client, stamp } => named(alloc, "request", &[client, stamp], point),
+        Slot::Reply { number } => named(alloc, "reply", &[number], point),
+    }
 }
 
 /// The slot and the point of each part of a frame.
@@ -94,6 +111,7 @@ pub fn carried(alloc: Global, carried: &Carried) -> Result<Option<String>, Memor
         values.append(&shown.place.bit.to_be_bytes())?;
         values.append(&shown.value)?;
     }
-    let front = front(alloc, &digest(0, values.items(), &[]))?;
-    Ok(Some(format!(in alloc; "{line} {front}")?))
+    line.push(' ')?;
+    line.push_str(front(alloc, &digest(0, values.items(), &[]))?.as_str())?;
+    Ok(Some(line))
 }

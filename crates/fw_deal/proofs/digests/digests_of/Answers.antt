@@ -22,5 +22,5 @@ loop-k-preserved c =
 pub returns : goal.returns
 returns c =
     let o : Origin = record { params = c.args.params.now; seed = c.args.seed.now } in
-    let last : c.loop-k.k ≡ rows o.params = omega (arith, c.rows-k-end.ensures) in
+    let last : c.loop-k.k ≡ rows o.params = omega (arith, c.row_count-k-end.ensures) in
     directory_of_rows o c.loop-k.digests c.requires (subst (λ k. HasRows o k c.loop-k.digests) last c.loop-k.invariant.digests)

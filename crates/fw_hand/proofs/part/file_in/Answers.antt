@@ -1,7 +1,7 @@
 -- A head, the directory, and a hand.
 use Rattle.fw_hand.specs.Files.{part_bytes}
 use Rattle.fw_hand.specs.Reading.{IsPartOf}
-use Rattle.fw_hand.proofs.Finding.{no_first, no_second, both, via, via_none}
+use Rattle.fw_wire.proofs.Reading.{no_first, no_second, both, via, via_none}
 use Rattle.fw_hand.proofs.Beginning.{long, after_error}
 use Rattle.fw_hand.proofs.Whole.{rest_bytes, RestFits, file_same}
 use Rattle.fw_hand.proofs.part.file_in.Goals as goal

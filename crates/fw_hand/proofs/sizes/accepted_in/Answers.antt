@@ -1,7 +1,7 @@
 -- Sizes that are accepted are numbers of four bytes.
 use Rattle.std.proofs.Common.{sym, ◌∙◌}
 use Rattle.std.proofs.lemmas.Bool.{true≢false}
-use Rattle.fw_hand.proofs.Finding.{kept, refused}
+use Rattle.fw_wire.proofs.Reading.{kept, refused}
 use Rattle.fw_hand.proofs.Heads.{words_of}
 use Rattle.fw_hand.proofs.sizes.accepted_in.Goals as goal
 

@@ -1,6 +1,6 @@
 -- One and another.
 use Rattle.fw_hand.specs.Reading.{two_bytes, AreTwo}
-use Rattle.fw_hand.proofs.Finding.{no_first, no_second, both}
+use Rattle.fw_wire.proofs.Reading.{no_first, no_second, both}
 use Rattle.fw_hand.proofs.sizes.four_in.Goals as goal
 
 pub returns-in_default : goal.returns-in_default

@@ -1,6 +1,6 @@
 -- The letters that stand there are those that are taken.
 use Rattle.std.proofs.Common.{codes, sym, ◌∙◌}
-use Rattle.fw_op.proofs.Fronts.{same_front}
+use Rattle.fw_wire.proofs.Fronts.{same_front}
 use Rattle.fw_hand.proofs.sizes.has_letters.Goals as goal
 
 pub returns-in-Some-clause-no : goal.returns-in-Some-clause-no

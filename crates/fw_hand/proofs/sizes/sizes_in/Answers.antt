@@ -1,6 +1,6 @@
 -- Two fours are eight sizes.
 use Rattle.fw_hand.specs.Reading.{four_bytes, AreFour}
-use Rattle.fw_hand.proofs.Finding.{no_first, no_second, both, via, via_none}
+use Rattle.fw_wire.proofs.Reading.{no_first, no_second, both, via, via_none}
 use Rattle.fw_hand.proofs.Heads.{sizes_same}
 use Rattle.fw_hand.proofs.sizes.sizes_in.Goals as goal
 

@@ -1,7 +1,7 @@
 -- One and another.
 use Rattle.fw_list.specs.Numbers.{u32}
 use Rattle.fw_hand.specs.Reading.{IsWord}
-use Rattle.fw_hand.proofs.Finding.{no_first, no_second, both}
+use Rattle.fw_wire.proofs.Reading.{no_first, no_second, both}
 use Rattle.fw_hand.proofs.sizes.two_in.Goals as goal
 
 pub returns-in_default : goal.returns-in_default

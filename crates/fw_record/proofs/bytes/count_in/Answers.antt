@@ -1,6 +1,6 @@
 -- A count up to the most.
 use Rattle.std.proofs.Common.{arith}
-use Rattle.fw_record.proofs.Reading.{none_same}
+use Rattle.fw_wire.proofs.Reading.{none_same}
 use Rattle.fw_record.proofs.Finding.{no_count, count_on, count_off}
 use Rattle.fw_record.proofs.bytes.count_in.Goals as goal
 

@@ -1,5 +1,6 @@
 -- The fields one behind the other.
-use Rattle.fw_record.proofs.Reading.{no_first, no_second, both, via, via_none}
+use Rattle.fw_wire.proofs.Reading.{via, via_none}
+use Rattle.fw_wire.proofs.Fields.{no_first, no_second, both}
 use Rattle.fw_record.proofs.Finding.{start_same}
 use Rattle.fw_record.proofs.fields.parts_in.Goals as goal
 

@@ -2,10 +2,10 @@
 use Rattle.std.proofs.Common.{◌≡◌, ◌++◌, ◌-◌, length}
 use Rattle.fw_base.specs.declared.params.Params.{Params}
 use Rattle.fw_op.specs.declared.op.Op.{Op}
-use Rattle.fw_node.specs.declared.Message.{Message}
+use Rattle.typed_node.specs.declared.Message.{Message}
 use Rattle.fw_list.specs.Lists.{numbers_from}
 use Rattle.fw_trace.specs.Trace.{Trace}
-use Rattle.fw_client.specs.Standing.{StandsFor}
+use Rattle.typed_client.specs.Standing.{StandsFor}
 use Rattle.fw_world.specs.Summary.{accept_lines}
 use Rattle.fw_world.specs.Clients.{ClientsStand}
 use Rattle.fw_world.proofs.accepted.accept_lines.Given as goal

@@ -1,7 +1,7 @@
 -- The numbers so far, and those of the frames that are left.
 use Rattle.std.proofs.Common.{◌≡◌, ◌++◌, drop}
 use Rattle.fw_trace.specs.Trace.{crossing}
-use Rattle.fw_rules.specs.Outcome.{in_row}
+use Rattle.typed_rules.specs.Outcome.{in_row}
 use Rattle.fw_world.specs.Summary.{reply_numbers}
 use Rattle.fw_world.proofs.crossing.let_down.Given as goal
 

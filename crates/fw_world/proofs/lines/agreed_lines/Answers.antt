@@ -1,6 +1,6 @@
 -- One number more.
 use Rattle.fw_trace.specs.Run as runs
-use Rattle.fw_rules.specs.Speeches.{agreed_in}
+use Rattle.typed_rules.specs.Speeches.{agreed_in}
 use Rattle.fw_world.specs.Summary.{agreed_lines}
 use Rattle.fw_world.specs.Numbers.{agreed_of}
 use Rattle.fw_world.proofs.Counting.{agreed_more}

@@ -3,7 +3,7 @@ use Rattle.std.proofs.Common.{◌≡◌, ◌+◌, ◌-◌, ◌++◌, map}
 use Rattle.fw_list.specs.Lists.{numbers_from}
 use Rattle.fw_trace.specs.Lists.{front_of}
 use Rattle.fw_trace.specs.Run as runs
-use Rattle.fw_rules.specs.Speeches.{agreed_in}
+use Rattle.typed_rules.specs.Speeches.{agreed_in}
 use Rattle.fw_world.specs.Summary.{agreed_lines}
 use Rattle.fw_world.specs.Numbers.{agreed_of}
 use Rattle.fw_world.proofs.lines.agreed_lines.Given as goal

@@ -1,7 +1,7 @@
 -- The first of all is the first of those that are left.
 use Rattle.std.proofs.Common.{◌≡◌, drop}
 use Rattle.fw_trace.specs.Run as runs
-use Rattle.fw_rules.specs.Speeches.{agreed_in}
+use Rattle.typed_rules.specs.Speeches.{agreed_in}
 use Rattle.fw_world.proofs.lines.entry_at.Given as goal
 
 abbrev pub invariant-loop-sent : goal.invariant-loop-sent

@@ -1,6 +1,6 @@
 -- The rule of each client.
 use Rattle.std.proofs.Common.{◌≡◌, ℕ, ap₂}
-use Rattle.fw_rules.specs.Speeches.{client_role}
+use Rattle.typed_rules.specs.Speeches.{client_role}
 use Rattle.fw_trace.specs.Role.{sends}
 use Rattle.fw_world.proofs.nodes.clients.Goals as goal
 

@@ -1,7 +1,7 @@
 -- The k-th node is that of client k.
 use Rattle.std.proofs.Common.{◌≡◌, ℕ, [], Some, length, slice_get}
 use Rattle.fw_base.specs.declared.seat.Seat.TheVariants.{Client}
-use Rattle.fw_client.specs.Standing.{Asker, StandsFor}
+use Rattle.typed_client.specs.Standing.{Asker, StandsFor}
 use Rattle.fw_world.proofs.nodes.clients.Given as goal
 
 abbrev pub invariant-loop-c : goal.invariant-loop-c

@@ -1,13 +1,13 @@
 -- The run of new nodes is the run of the plan.
 use Rattle.std.proofs.Common.{◌≡◌, ◌∙◌, ap, List}
 use Rattle.fw_base.specs.declared.params.Params.{Params}
-use Rattle.fw_agree.specs.declared.AgreeNode.{AgreeNode}
-use Rattle.fw_exec.specs.declared.executor.ExecNode.{ExecNode}
-use Rattle.fw_filter.specs.declared.filter.FilterNode.{FilterNode}
-use Rattle.fw_client.specs.declared.ClientNode.{ClientNode}
-use Rattle.fw_node.specs.Given.{Taken}
-use Rattle.fw_rules.specs.Agree.{Out, agree_role}
-use Rattle.fw_rules.specs.Speeches.{client_role, executor_role, filter_role}
+use Rattle.typed_agree.specs.declared.AgreeNode.{AgreeNode}
+use Rattle.typed_exec.specs.declared.executor.ExecNode.{ExecNode}
+use Rattle.typed_filter.specs.declared.filter.FilterNode.{FilterNode}
+use Rattle.typed_client.specs.declared.ClientNode.{ClientNode}
+use Rattle.typed_node.specs.Given.{Taken}
+use Rattle.typed_rules.specs.Agree.{Out, agree_role}
+use Rattle.typed_rules.specs.Speeches.{client_role, executor_role, filter_role}
 use Rattle.fw_trace.specs.Role.{sends}
 use Rattle.fw_report.specs.Report.{report_text}
 use Rattle.fw_world.specs.GridNodes.{nodes_of}

@@ -2,7 +2,7 @@
 use Rattle.std.proofs.Common.{Bool, IsTrue, sym, subst, ◌↔◌}
 use Rattle.fw_trace.specs.Trace.{IsAtRest}
 use Rattle.fw_trace.proofs.Rest.{rest_is}
-use Rattle.fw_rules.specs.World.{rules_by}
+use Rattle.typed_rules.specs.World.{rules_by}
 use Rattle.fw_world.proofs.pool.is_at_rest.Goals as goal
 
 pub returns-clause-rest : goal.returns-clause-rest

@@ -1,7 +1,7 @@
 -- One frame more, and the end.
 use Rattle.std.proofs.Common.{◌≤◌, length, ap, sym, ◌∙◌, arith}
 use Rattle.std.proofs.lemmas.List.{drop_all}
-use Rattle.fw_rules.specs.World.{rules_by}
+use Rattle.typed_rules.specs.World.{rules_by}
 use Rattle.fw_trace.specs.Trace.{next_frame}
 use Rattle.fw_world.proofs.Places.{next_found, next_passed}
 use Rattle.fw_world.proofs.pool.next.Goals as goal

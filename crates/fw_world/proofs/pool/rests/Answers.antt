@@ -1,7 +1,7 @@
 -- One frame more, and the end.
 use Rattle.std.proofs.Common.{◌≤◌, length, ap, sym, ◌∙◌, arith, true, false}
 use Rattle.std.proofs.lemmas.List.{drop_all}
-use Rattle.fw_rules.specs.World.{rules_by}
+use Rattle.typed_rules.specs.World.{rules_by}
 use Rattle.fw_trace.specs.Trace.{rests_from}
 use Rattle.fw_world.proofs.Places.{rests_more}
 use Rattle.fw_world.proofs.pool.rests.Goals as goal

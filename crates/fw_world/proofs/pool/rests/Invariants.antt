@@ -1,9 +1,9 @@
 -- All rest if those that are left do.
 use Rattle.std.proofs.Common.{◌≡◌, List, drop}
 use Rattle.fw_base.specs.declared.seat.Seat.{Seat}
-use Rattle.fw_node.specs.Given.{Taken}
-use Rattle.fw_rules.specs.Agree.{Out}
-use Rattle.fw_rules.specs.World.{rules_by}
+use Rattle.typed_node.specs.Given.{Taken}
+use Rattle.typed_rules.specs.Agree.{Out}
+use Rattle.typed_rules.specs.World.{rules_by}
 use Rattle.fw_trace.specs.Trace.{rests_from}
 use Rattle.fw_world.proofs.pool.rests.Given as goal
 

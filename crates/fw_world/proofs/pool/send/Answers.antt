@@ -1,6 +1,6 @@
 -- One message more.
 use Rattle.std.proofs.Common.{List, [], ◌∷◌, ◌++◌, ap, sym, ◌∙◌, append_assoc}
-use Rattle.fw_node.specs.declared.Message.{Message}
+use Rattle.typed_node.specs.declared.Message.{Message}
 use Rattle.fw_trace.specs.declared.Sent.{Sent}
 use Rattle.fw_trace.specs.Trace.{from_seat}
 use Rattle.fw_world.proofs.Places.{from_seat_append}

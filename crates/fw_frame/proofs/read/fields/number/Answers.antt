@@ -1,5 +1,6 @@
 use Rattle.std.proofs.Common.{inl, inr, arith}
-use Rattle.fw_frame.proofs.Reading.{none_same, no_number, number_off, number_on}
+use Rattle.fw_wire.proofs.Reading.{none_same}
+use Rattle.fw_frame.proofs.Reading.{no_number, number_off, number_on}
 use Rattle.fw_frame.proofs.read.fields.number.Goals as goal
 
 pub returns-in_err-n : goal.returns-in_err-n

@@ -1,4 +1,5 @@
-use Rattle.fw_frame.proofs.Reading.{no_first, no_second, both, via, via_none}
+use Rattle.fw_wire.proofs.Reading.{via, via_none}
+use Rattle.fw_wire.proofs.Fields.{no_first, no_second, both}
 use Rattle.fw_frame.proofs.FrameFields.{agreed_same}
 use Rattle.fw_frame.proofs.read.kinds.agreed.Goals as goal
 

@@ -1,6 +1,7 @@
 use Rattle.std.proofs.Common.{arith, sym}
 use Rattle.std.proofs.lemmas.Bool.{ltb-true}
-use Rattle.fw_frame.proofs.Reading.{both, kept}
+use Rattle.fw_wire.proofs.Reading.{kept}
+use Rattle.fw_wire.proofs.Fields.{both}
 use Rattle.fw_frame.proofs.FrameFields.{answer_from, answer_to}
 use Rattle.fw_frame.proofs.read.kinds.answer.Goals as goal
 

@@ -1,4 +1,4 @@
-use Rattle.fw_frame.proofs.Reading.{via, via_none}
+use Rattle.fw_wire.proofs.Reading.{via, via_none}
 use Rattle.fw_frame.proofs.FrameFields.{change_frame_same}
 use Rattle.fw_frame.proofs.read.kinds.change.Goals as goal
 

@@ -1,4 +1,5 @@
-use Rattle.fw_frame.proofs.Reading.{no_first, no_second, no_second_of, both, both_of, via, via_none}
+use Rattle.fw_wire.proofs.Reading.{via, via_none}
+use Rattle.fw_wire.proofs.Fields.{no_first, no_second, no_second_of, both, both_of}
 use Rattle.fw_frame.proofs.FrameFields.{new_view_same, new_view_rest}
 use Rattle.fw_frame.proofs.read.kinds.new_view.Goals as goal
 

@@ -1,5 +1,6 @@
 use Rattle.fw_frame.specs.Plain.{plain}
-use Rattle.fw_frame.proofs.Reading.{no_first, no_second, both, via, via_none, none_is}
+use Rattle.fw_wire.proofs.Reading.{via, via_none, none_is}
+use Rattle.fw_wire.proofs.Fields.{no_first, no_second, both}
 use Rattle.fw_frame.proofs.FrameFields.{reply_same}
 use Rattle.fw_frame.proofs.read.kinds.reply.Goals as goal
 

@@ -1,4 +1,5 @@
-use Rattle.fw_frame.proofs.Reading.{both, via}
+use Rattle.fw_wire.proofs.Reading.{via}
+use Rattle.fw_wire.proofs.Fields.{both}
 use Rattle.fw_frame.proofs.Fields.{proof_same}
 use Rattle.fw_frame.proofs.read.proofs.proof.Goals as goal
 

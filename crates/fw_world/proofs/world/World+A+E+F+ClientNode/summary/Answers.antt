@@ -1,12 +1,12 @@
 -- The summary is made of its parts, and says whether the trace is at rest.
 use Rattle.std.proofs.Common.{◌≡◌, ◌∙◌, ◌↔◌, ◌-◌, IsTrue, List, ℕ, ap, ap₂, sym, subst, false, length}
-use Rattle.fw_client.specs.Standing.{StandsFor, Asker}
-use Rattle.fw_node.specs.declared.Message.{Message}
+use Rattle.typed_client.specs.Standing.{StandsFor, Asker}
+use Rattle.typed_node.specs.declared.Message.{Message}
 use Rattle.fw_trace.specs.declared.Sent.{Sent}
 use Rattle.fw_list.specs.Lists.{numbers_from}
 use Rattle.fw_trace.specs.Trace.{crossing, rests_from, IsAtRest}
-use Rattle.fw_rules.specs.Outcome.{in_row}
-use Rattle.fw_rules.specs.World.{rule_of, rules}
+use Rattle.typed_rules.specs.Outcome.{in_row}
+use Rattle.typed_rules.specs.World.{rule_of, rules}
 use Rattle.fw_world.specs.Clients.{ClientsStand}
 use Rattle.fw_world.specs.Numbers.{agreed_of}
 use Rattle.fw_world.specs.Summary.{agreed_lines, accept_lines, cross_lines, reply_numbers}

@@ -1,6 +1,6 @@
 -- The first frame that is due.
 use Rattle.std.proofs.Common.{ap, ◌∙◌}
-use Rattle.fw_rules.specs.World.{rules_by}
+use Rattle.typed_rules.specs.World.{rules_by}
 use Rattle.fw_trace.specs.Trace.{next_frame}
 use Rattle.fw_world.specs.Nodes.{nodes_rule}
 use Rattle.fw_world.specs.GridNodes.{nodes_of}

@@ -3,7 +3,7 @@ use Rattle.std.proofs.Common.{◌≡◌, ℕ, drop, false, Ok}
 use Rattle.fw_op.specs.declared.op.Op.{Op}
 use Rattle.fw_trace.specs.Trace.{Trace}
 use Rattle.fw_trace.specs.Run as runs
-use Rattle.fw_node.specs.declared.Message.{Message}
+use Rattle.typed_node.specs.declared.Message.{Message}
 use Rattle.fw_world.specs.Schedule.{schedule}
 use Rattle.fw_world.specs.Seen.{rules_of, world_of}
 use Rattle.fw_world.proofs.world.World.run.Given as goal

@@ -2,9 +2,9 @@
 use Rattle.std.proofs.Common.{◌≡◌, List, false, ap, ◌∙◌}
 use Rattle.fw_base.specs.declared.seat.Seat.{Seat}
 use Rattle.fw_trace.specs.Trace.{history}
-use Rattle.fw_node.specs.Given.{Taken}
-use Rattle.fw_rules.specs.Agree.{Out}
-use Rattle.fw_rules.specs.World.{rules_by}
+use Rattle.typed_node.specs.Given.{Taken}
+use Rattle.typed_rules.specs.Agree.{Out}
+use Rattle.typed_rules.specs.World.{rules_by}
 use Rattle.fw_world.specs.GridNodes.{nodes_of}
 use Rattle.fw_world.proofs.Events.{nodes_rule_same, takes_is}
 use Rattle.fw_world.proofs.world.World.take.Goals as goal

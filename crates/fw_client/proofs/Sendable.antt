@@ -1,0 +1,116 @@
+-- What a client sends: frames of some bytes and not too many, to agreement nodes of the deployment.
+use Rattle.std.proofs.Common.{◌≡◌, ℕ, zero, suc, ◌+◌, ◌≤◌, Bool, true, false, ◌&&◌, nat_eq, nat_lt, List, [], ◌∷◌, ◌++◌, length, map, All, Option, Some, None, sym, ap, subst, arith, IsTrue, inl, inr}
+use Rattle.std.proofs.lemmas.Bool.{lt-ltb, cases_Bool}
+use Rattle.std.proofs.lemmas.List.{length-append}
+use Rattle.std.proofs.lemmas.List.Elements.{All-nil, All-cons}
+use Rattle.fw_list.specs.Lists.{numbers_from}
+use Rattle.fw_list.specs.Numbers.{u32}
+use Rattle.fw_base.specs.declared.params.Params.{Params}
+use Rattle.fw_base.specs.declared.seat.Seat.{Seat}
+use Rattle.fw_base.specs.declared.seat.Seat.TheVariants as seats
+use Rattle.fw_base.specs.declared.slot.Slot.{Slot}
+use Rattle.fw_base.specs.declared.slot.Slot.TheVariants as slots
+use Rattle.fw_base.specs.Sizes.{agreements}
+use Rattle.fw_text.specs.Texts.{hash, Asked}
+use Rattle.fw_seal.specs.declared.types.BodyKey.{BodyKey}
+use Rattle.fw_seal.specs.declared.types.Direction.{Direction}
+use Rattle.fw_seal.specs.declared.types.Direction.TheVariants as way
+use Rattle.fw_op.specs.declared.op.Op.{Op}
+use Rattle.fw_op.specs.declared.reply.Reply.{Reply}
+use Rattle.fw_op.specs.Ops.{op_bytes}
+use Rattle.fw_trace.specs.declared.Told.{Told}
+use Rattle.fw_trace.specs.declared.Input.TheVariants.{Heard, Tick, Submitted}
+use Rattle.fw_trace.specs.Client as clients
+use Rattle.fw_trace.specs.Role.{kept, sends}
+use Rattle.fw_directory.specs.Directories.{PlainDirectory}
+use Rattle.fw_hand.specs.Hands.{PlainHand, key_in, values_in}
+use Rattle.fw_means.specs.Means.{value_of_bit, signed_by, sealed_by}
+use Rattle.fw_node.specs.Histories.{Taken, History, Out, IsSendable, AreSendable}
+use Rattle.fw_client.specs.Kept.{Speech}
+use Rattle.fw_client.specs.Standing.{Asker, rule_of, speech, speech_of}
+use Rattle.fw_client.proofs.Lengths.{length-four, sealed-most, value-most, pieces-most}
+
+-- ---- how long a request is
+
+bit-most : (values : Option (List ℕ)) (digest : List ℕ) (b : ℕ) → length (value_of_bit values digest b) ≤ 32
+bit-most None digest b = omega arith
+bit-most (Some values) digest b = value-most values _
+
+signed-most : (hand : PlainHand) (slot : Slot) (digest : List ℕ) → length (signed_by hand slot digest) ≤ 8192
+unfolding signed_by
+signed-most hand slot digest = pieces-most (value_of_bit (values_in hand.held slot) digest) (bit-most (values_in hand.held slot) digest) 0 256
+
+body-most : (key : Option BodyKey) (client stamp : ℕ) (text : List ℕ) → length (sealed_by key way.Request client stamp text) ≤ 544
+body-most None client stamp text = omega arith
+body-most (Some key) client stamp text = sealed-most key way.Request client stamp text
+
+joined-most : (a b body sig : List ℕ) → length a ≡ 4 → length b ≡ 4 → length body ≤ 544 → length sig ≤ 8192 → length (a ++ b ++ body ++ sig) ≤ 9000
+joined-most a b body sig one two three four =
+    let x = length-append (a ++ b ++ body) sig in
+    let y = length-append (a ++ b) body in
+    let z = length-append a b in
+    omega arith
+
+request-most : (c : ℕ) (hand : PlainHand) (d : PlainDirectory) (stamp : ℕ) (op : Op) → length ((speech_of c hand d).request stamp op) ≤ 9001
+request-most c hand d stamp op =
+    let body = sealed_by (key_in hand.keys c) way.Request c stamp (op_bytes op) in
+    let sig = signed_by hand (slots.Request c stamp) (hash (Asked c stamp body)) in
+    let most = joined-most (u32 c) (u32 stamp) body sig (length-four c) (length-four stamp) (body-most (key_in hand.keys c) c stamp (op_bytes op)) (signed-most hand (slots.Request c stamp) (hash (Asked c stamp body))) in
+    omega arith
+
+request-some : (c : ℕ) (hand : PlainHand) (d : PlainDirectory) (stamp : ℕ) (op : Op) → 1 ≤ length ((speech_of c hand d).request stamp op)
+request-some c hand d stamp op = omega arith
+
+-- ---- to whom it goes
+
+to-all : (p : Params) (bytes : List ℕ) → 1 ≤ length bytes → length bytes ≤ 9001 → (first count : ℕ) → first + count ≤ agreements p → AreSendable p (clients.to_all (map seats.Agree (numbers_from first count)) bytes)
+to-all p bytes some most first zero within = All-nil _
+to-all p bytes some most first (suc count) within =
+    All-cons (λ o. IsSendable p o.0 o.1) (seats.Agree first, bytes) _
+    (record { fits = lt-ltb first (agreements p) (omega arith); some = some; most = omega arith })
+    (to-all p bytes some most (first + 1) count (omega arith))
+
+-- ---- all that a client sends
+
+-- what is sent is requests to all agreement nodes, so what holds of those holds of all
+abbrev pub OfRequests : (Out → Type 0) → Speech → Type 0
+OfRequests P sp = (stamp : ℕ) (op : Op) → P (clients.to_all sp.to (sp.request stamp op))
+
+go_on-all : (P : Out → Type 0) (sp : Speech) → P [] → OfRequests P sp → (c : clients.Client Op Reply) (waiting : List Op) → P (clients.go_on sp c waiting).1
+go_on-all P sp none each c [] = none
+go_on-all P sp none each c (op ∷ waiting) = each _ op
+
+hear-all : (P : Out → Type 0) (sp : Speech) → P [] → OfRequests P sp → (c : clients.Client Op Reply) (told : Option (Told Reply)) → P (clients.hear sp c told).1
+hear-all P sp none each c None = none
+hear-all P sp none each c (Some told) = elim (cases_Bool (c.pending && nat_eq told.stamp (clients.stamp c))) [
+  | inl holds ↦ rw holds (go_on-all P sp none each (record c { pending = false; accepted = told ∷ c.accepted }) c.waiting)
+  | inr fails ↦ rw fails none
+]
+
+again-all : (P : Out → Type 0) (sp : Speech) → P [] → OfRequests P sp → (c : clients.Client Op Reply) (asked : List Op) → P (clients.again sp c asked)
+again-all P sp none each c [] = none
+again-all P sp none each c (op ∷ asked) = elim (cases_Bool c.pending) [
+  | inl holds ↦ rw holds (each (clients.stamp c) op)
+  | inr fails ↦ rw fails none
+]
+
+submit-all : (P : Out → Type 0) (sp : Speech) → P [] → OfRequests P sp → (c : clients.Client Op Reply) (op : Op) (pending : Bool) → P (clients.submit sp c op pending).1
+submit-all P sp none each c op false = each _ op
+submit-all P sp none each c op true = none
+
+next-all : (P : Out → Type 0) (sp : Speech) → P [] → OfRequests P sp → (c : clients.Client Op Reply) (i : Taken) → P (clients.client_next sp c i).1
+next-all P sp none each c (Heard from m) = hear-all P sp none each c (sp.told from m)
+next-all P sp none each c Tick = again-all P sp none each c c.asked
+next-all P sp none each c (Submitted op) = elim (cases_Bool (nat_lt (clients.taken c) sp.most)) [
+  | inl holds ↦ rw holds (submit-all P sp none each c op c.pending)
+  | inr fails ↦ rw fails none
+]
+
+-- each frame that a client sends can be sent
+pub all_sendable : (n : Asker) (d : PlainDirectory) (h : History) → d.params ≡ n.params → AreSendable n.params (rule_of n d h)
+all_sendable n d [] same = All-nil _
+all_sendable n d (i ∷ h) same =
+    subst (λ p. AreSendable p (rule_of n d (i ∷ h))) same
+    (next-all (AreSendable d.params) (speech n d) (All-nil _)
+    (λ stamp op. to-all d.params ((speech n d).request stamp op) (request-some n.client n.hand d stamp op) (request-most n.client n.hand d stamp op) 0 (agreements d.params) (omega arith))
+    (kept (clients.client_role (speech n d)) h) i)

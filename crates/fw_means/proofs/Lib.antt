@@ -1,0 +1,4 @@
+-- The files of lemmas.
+pub mod Admitting
+pub mod Signing
+pub mod Joining

@@ -1,0 +1,2 @@
+-- The definitions that the clauses cite.
+pub mod Reference
