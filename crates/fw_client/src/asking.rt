@@ -58,6 +58,7 @@ fn signature(
     requires last { stamp ≤ params.now.stamps }
     ensures { result ≡ signed_by hand.now (slots.Request client stamp) digest.now }
 {
+    // (they say in the contract alone which slots the hand has)
     let _params = params;
     match signed(hand, Slot::Request { client, stamp }, digest) {
         Some(values) => values,

@@ -62,6 +62,7 @@ impl Submissions {
     pub fn waiting(&self) -> u32
         ensures { result ≡ clients.taken self.now.keeps - length self.now.keeps.accepted }
     {
+        // (to have its range: it is above what is counted here)
         let _most = self.most;
         let taken = self.asked.len() + self.waiting.len();
         taken.saturating_sub(self.accepted.oldest_first().len()) as u32
@@ -73,6 +74,7 @@ impl Submissions {
         ensures fits { IfSome result (λ t. (1 ≤ t.0) × (t.0 ≤ self.now.most) × IsAskable t.1.now) }
         ensures none { IfNone result (self.now.keeps.asked ≡ []) }
     {
+        // (to have its range: it is above what is counted here)
         let _most = self.most;
         let op = self.asked.at(0)?;
         Some((self.asked.len() as u32, op))

@@ -1,10 +1,11 @@
 //! What the rules need, done: frames read and checked, digests signed by a hand, a reply's values joined from shares, and bodies
 //! sealed and opened.
 
-ghost use Rattle.std.specs.Prelude.{◌≡◌, ◌<◌, ◌≤◌, ◌^◌, None, List, length, map, zip, All, IfOk, IfSome, IfNone, IsTrue, option_map, option_and_then};
+ghost use Rattle.std.specs.Prelude.{◌≡◌, ◌<◌, ◌≤◌, ◌^◌, None, List, length, map, zip, slice_index, All, EachIndex, IfOk, IfSome, IfNone, IsTrue, option_map, option_and_then};
 ghost use Rattle.fw_list.specs.declared.limits.TheConstants.{BODY_LEN, ROW_LEN, SIGNATURE_LEN};
 ghost use Rattle.fw_base.specs.Seats.{fits};
-ghost use Rattle.fw_shamir.specs.Polynomial.{AreDistinct};
+ghost use Rattle.fw_shamir.specs.Polynomial.{AreDistinct, column};
+ghost use Rattle.fw_shamir.specs.Sharing.{PointsGive};
 ghost use Rattle.fw_seal.specs.declared.types.Direction.TheVariants as way;
 ghost use Rattle.fw_seal.specs.Seal.{sealed, opened};
 ghost use Rattle.fw_op.specs.Ops.{op_bytes, op_fits};
@@ -61,7 +62,8 @@ pub fn signed(hand: &Hand, slot: Slot, digest: &[u8; 32]) -> Option<[u8; SIGNATU
     Some(values)
 }
 
-/// The values of a reply from shares of it at these points.
+/// The values of a reply from shares of it at these points: each byte is the value at 0 of any polynomial, of a degree below the number
+/// of the shares, that goes through their bytes with its index.
 pub fn join(points: &[u8], shares: &[&[u8]], out: &mut [u8])
     requires some { 0 < length points.now }
     requires few { length points.now ≤ 8 }
@@ -69,7 +71,8 @@ pub fn join(points: &[u8], shares: &[&[u8]], out: &mut [u8])
     requires shares { length shares.now ≡ length points.now }
     requires lengths { All (λ share. length share.now ≡ SIGNATURE_LEN) shares.now }
     requires out { length out.old ≡ SIGNATURE_LEN }
-    ensures { out.new ≡ joined_values (zip points.now (map (λ share. share.now) shares.now)) }
+    ensures value { out.new ≡ joined_values (zip points.now (map (λ share. share.now) shares.now)) }
+    ensures any { EachIndex out.new (λ j. PointsGive (column points.now shares.now j) (slice_index out.new j)) }
 {
     Weights::of(points).combine_into(shares, out)
 }

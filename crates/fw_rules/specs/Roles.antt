@@ -27,6 +27,7 @@ use Rattle.fw_rules.specs.Agree.{agree_role}
 
 -- ---- the client c
 
+-- the request of a stamp: the operation, sealed, and the client's signature
 abbrev pub request_of : {M : Type 0} → Means M → Bodies → ℕ → ℕ → Op → Request
 request_of k b c stamp op =
     let bare : Request = record { client = c; stamp = stamp; body = b.seal_op c stamp op; sig = [] } in
@@ -54,6 +55,7 @@ client_speech k b c = record {
 abbrev pub request_opened : Bodies → Request → Opened
 request_opened b r = record { client = r.client; stamp = r.stamp; op = b.open_op r.client r.stamp r.body }
 
+-- a reply at a number as it is told: sealed for its client
 abbrev pub given : Bodies → ℕ → Replied → Given
 given b n a = record { client = a.client; stamp = a.stamp; body = b.seal_reply a.client n a.reply }
 

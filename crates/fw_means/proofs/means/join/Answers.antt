@@ -5,8 +5,8 @@ use Rattle.fw_shamir.proofs.Weighing.{are-bytes}
 use Rattle.fw_means.proofs.Joining.{byte_is, all_joined}
 use Rattle.fw_means.proofs.means.join.Goals as goal
 
-pub returns : goal.returns
-returns c =
+pub returns-clause-value : goal.returns-clause-value
+returns-clause-value c =
     let places : List ℕ = c.args.points.now in
     let shares = c.args.shares.now in
     let out : List ℕ = c.combine_into.new.out in
@@ -15,3 +15,8 @@ returns c =
     (λ j below. byte_is places shares j (get_or out j 0) c.requires.shares bytes c.requires.distinct
     (let P : List ℕ → Type 0 = λ xs. HavePolynomial (column xs shares j) in subst P c.of.ensures (c.combine_into.ensures.exists j below))
     (let P : List ℕ → Type 0 = λ xs. PointsGive (column xs shares j) (get_or out j 0) in subst P c.of.ensures (c.combine_into.ensures.any j below)))
+
+pub returns-clause-any : goal.returns-clause-any
+returns-clause-any c = λ j below.
+    let P : List ℕ → Type 0 = λ xs. PointsGive (column xs c.args.shares.now j) (get_or c.combine_into.new.out j 0) in
+    subst P c.of.ensures (c.combine_into.ensures.any j below)
