@@ -1,7 +1,5 @@
 -- The files of lemmas.
 pub mod Within
-pub mod Hands
-pub mod Lengths
 pub mod Openable
 pub mod Sending
 pub mod Sendable

@@ -5,6 +5,7 @@ use Rattle.std.proofs.lemmas.List.{length-append}
 use Rattle.std.proofs.lemmas.List.Elements.{All-nil, All-cons}
 use Rattle.fw_list.specs.Lists.{numbers_from}
 use Rattle.fw_list.specs.Numbers.{u32}
+use Rattle.fw_list.specs.declared.limits.TheConstants.{LONGEST_FRAME}
 use Rattle.fw_base.specs.declared.params.Params.{Params}
 use Rattle.fw_base.specs.declared.seat.Seat.{Seat}
 use Rattle.fw_base.specs.declared.seat.Seat.TheVariants as seats
@@ -28,7 +29,8 @@ use Rattle.fw_means.specs.Means.{value_of_bit, signed_by, sealed_by}
 use Rattle.fw_node.specs.Histories.{Taken, History, Out, IsSendable, AreSendable}
 use Rattle.fw_client.specs.Kept.{Speech}
 use Rattle.fw_client.specs.Standing.{Asker, rule_of, speech, speech_of}
-use Rattle.fw_client.proofs.Lengths.{length-four, sealed-most, value-most, pieces-most}
+use Rattle.fw_node.proofs.Sendable.{to_all, agreements_fit}
+use Rattle.fw_means.proofs.Lengths.{length-four, sealed-most, value-most, pieces-most}
 
 -- ---- how long a request is
 
@@ -51,7 +53,7 @@ joined-most a b body sig one two three four =
     let z = length-append a b in
     omega arith
 
-request-most : (c : ℕ) (hand : PlainHand) (d : PlainDirectory) (stamp : ℕ) (op : Op) → length ((speech_of c hand d).request stamp op) ≤ 9001
+request-most : (c : ℕ) (hand : PlainHand) (d : PlainDirectory) (stamp : ℕ) (op : Op) → length ((speech_of c hand d).request stamp op) ≤ LONGEST_FRAME
 request-most c hand d stamp op =
     let body = sealed_by (key_in hand.keys c) way.Request c stamp (op_bytes op) in
     let sig = signed_by hand (slots.Request c stamp) (hash (Asked c stamp body)) in
@@ -60,15 +62,6 @@ request-most c hand d stamp op =
 
 request-some : (c : ℕ) (hand : PlainHand) (d : PlainDirectory) (stamp : ℕ) (op : Op) → 1 ≤ length ((speech_of c hand d).request stamp op)
 request-some c hand d stamp op = omega arith
-
--- ---- to whom it goes
-
-to-all : (p : Params) (bytes : List ℕ) → 1 ≤ length bytes → length bytes ≤ 9001 → (first count : ℕ) → first + count ≤ agreements p → AreSendable p (clients.to_all (map seats.Agree (numbers_from first count)) bytes)
-to-all p bytes some most first zero within = All-nil _
-to-all p bytes some most first (suc count) within =
-    All-cons (λ o. IsSendable p o.0 o.1) (seats.Agree first, bytes) _
-    (record { fits = lt-ltb first (agreements p) (omega arith); some = some; most = omega arith })
-    (to-all p bytes some most (first + 1) count (omega arith))
 
 -- ---- all that a client sends
 
@@ -112,5 +105,5 @@ all_sendable n d [] same = All-nil _
 all_sendable n d (i ∷ h) same =
     subst (λ p. AreSendable p (rule_of n d (i ∷ h))) same
     (next-all (AreSendable d.params) (speech n d) (All-nil _)
-    (λ stamp op. to-all d.params ((speech n d).request stamp op) (request-some n.client n.hand d stamp op) (request-most n.client n.hand d stamp op) 0 (agreements d.params) (omega arith))
+    (λ stamp op. to_all d.params (map seats.Agree (numbers_from 0 (agreements d.params))) ((speech n d).request stamp op) (agreements_fit d.params) (request-some n.client n.hand d stamp op) (request-most n.client n.hand d stamp op))
     (kept (clients.client_role (speech n d)) h) i)

@@ -15,13 +15,13 @@ ghost use Rattle.fw_client.specs.Kept.{sent_of};
 ghost use Rattle.fw_client.specs.Standing.{IsClients, speech_of};
 
 use crate::submissions::Submissions;
-use fw_base::{Params, Seat, Slot};
+use fw_base::{Params, Slot};
 use fw_digest::digest;
 use fw_frame::{Frame, Request, two_numbers};
 use fw_hand::Hand;
 use fw_list::{Bytes, Memory, SIGNATURE_LEN};
 use fw_means::{seal_op, signed};
-use fw_node::{Outbox, Sent};
+use fw_node::{Outbox, agreement_seats};
 use fw_op::Op;
 use fw_seal::{Body, BodyKey};
 use std::alloc::Global;
@@ -93,36 +93,6 @@ pub(crate) fn request(
     Frame::Request(request).write(alloc)
 }
 
-/// Adds a frame to all agreement nodes.
-#[tactic(auto, using(crate::proofs::Sending::begins_more, crate::proofs::Sending::whole_more))]
-fn add_all(alloc: Global, params: &Params, bytes: &[u8], out: &mut Outbox) -> Result<(), Memory>
-    requires { IsTrue (accepted params.now) }
-    ensures sent { OnOk result (out.new ≡ out.old ++ clients.to_all (map seats.Agree (numbers_from 0 (agreements params.now))) bytes.now) }
-    ensures err { OnErr result (take (length out.old) out.new ≡ out.old) }
-{
-    for k in 0..params.agreements() {
-        out.push(Sent {
-            to: Seat::Agree(k),
-            bytes: Bytes::copy_of(alloc, bytes)?,
-        })?;
-    }
-    Ok(())
-}
-
-/// Sends a frame to all agreement nodes. After want of memory the outbox is as before.
-fn send_all(alloc: Global, params: &Params, bytes: &[u8], out: &mut Outbox) -> Result<(), Memory>
-    requires { IsTrue (accepted params.now) }
-    ensures sent { OnOk result (out.new ≡ out.old ++ clients.to_all (map seats.Agree (numbers_from 0 (agreements params.now))) bytes.now) }
-    ensures err { OnErr result (out.new ≡ out.old) }
-{
-    let len = out.sent().len();
-    let sent = add_all(alloc, params, bytes, out);
-    if sent.is_err() {
-        out.cut(len);
-    }
-    sent
-}
-
 /// Sends the newest request to all agreement nodes. After want of memory the outbox is as before.
 pub(crate) fn send_newest(
     alloc: Global,
@@ -141,5 +111,6 @@ pub(crate) fn send_newest(
         return Ok(());
     };
     let bytes = request(alloc, params, client, hand, stamp, op)?;
-    send_all(alloc, params, bytes.items(), out)
+    let to = agreement_seats(alloc, params)?;
+    out.send_to_all(alloc, to.items(), bytes.items())
 }

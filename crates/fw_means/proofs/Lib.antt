@@ -2,3 +2,5 @@
 pub mod Admitting
 pub mod Signing
 pub mod Joining
+pub mod Lengths
+pub mod Hands

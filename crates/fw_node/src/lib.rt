@@ -3,6 +3,8 @@
 
 mod node;
 mod outbox;
+mod seats;
 
 pub use node::{Input, Node, NodeFault};
 pub use outbox::{Outbox, Sent};
+pub use seats::{agreement_seats, executor_seats, row_seats};

@@ -1,6 +1,7 @@
 //! What a node sends.
 
-ghost use Rattle.std.specs.Prelude.{◌≡◌, ◌∷◌, ◌++◌, [], map, take, OnOk, OnErr};
+ghost use Rattle.std.specs.Prelude.{◌≡◌, ◌∷◌, ◌++◌, [], length, map, take, OnOk, OnErr};
+ghost use Rattle.fw_trace.specs.Client as clients;
 ghost use Rattle.fw_node.specs.Histories.{out_of};
 
 use fw_base::Seat;
@@ -13,6 +14,21 @@ use std::marker::Model;
 pub struct Sent {
     pub to: Seat,
     pub bytes: Bytes,
+}
+
+/// Adds a frame to each of these seats.
+#[tactic(auto, using(crate::proofs::Sending::begins_more))]
+fn add_all(alloc: Global, to: &[Seat], bytes: &[u8], out: &mut Outbox) -> Result<(), Memory>
+    ensures sent { OnOk result (out.new ≡ out.old ++ clients.to_all to.now bytes.now) }
+    ensures err { OnErr result (take (length out.old) out.new ≡ out.old) }
+{
+    for seat in to {
+        out.push(Sent {
+            to: *seat,
+            bytes: Bytes::copy_of(alloc, bytes)?,
+        })?;
+    }
+    Ok(())
 }
 
 /// Frames that a node sends, in order.
@@ -54,6 +70,19 @@ impl Outbox {
     {
         self.sent.push(sent)?;
         Ok(())
+    }
+
+    /// Adds a frame to each of these seats. After want of memory the outbox is as before.
+    pub fn send_to_all(&mut self, alloc: Global, to: &[Seat], bytes: &[u8]) -> Result<(), Memory>
+        ensures ok { OnOk result (self.new ≡ self.old ++ clients.to_all to.now bytes.now) }
+        ensures err { OnErr result (self.new ≡ self.old) }
+    {
+        let len = self.sent.len();
+        let sent = add_all(alloc, to, bytes, self);
+        if sent.is_err() {
+            self.cut(len);
+        }
+        sent
     }
 
     /// Keeps the first so many frames; of fewer all.

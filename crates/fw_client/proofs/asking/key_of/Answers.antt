@@ -1,6 +1,6 @@
 -- The hand has the keys.
 use Rattle.std.proofs.Common.{sym}
-use Rattle.fw_client.proofs.Hands.{has-key}
+use Rattle.fw_means.proofs.Hands.{has-key}
 use Rattle.fw_client.proofs.asking.key_of.Goals as goal
 
 pub unreachable-requires : goal.unreachable-requires

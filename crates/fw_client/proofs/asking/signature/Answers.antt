@@ -1,5 +1,5 @@
 -- The hand has the values of the slot.
-use Rattle.fw_client.proofs.Hands.{has-slot}
+use Rattle.fw_means.proofs.Hands.{has-slot}
 use Rattle.fw_client.proofs.asking.signature.Goals as goal
 
 pub unreachable-requires : goal.unreachable-requires
