@@ -1,5 +1,5 @@
 -- The replies of a deployment can be opened.
-use Rattle.std.proofs.Common.{◌≡◌, ℕ, zero, suc, ◌^◌, ◌≤◌, ◌<◌, Bool, true, false, ◌&&◌, nat_le, List, [], ◌∷◌, length, All, Option, Some, None, sym, ap, arith, IsTrue, subst, refl}
+use Rattle.std.proofs.Common.{◌≡◌, ℕ, zero, suc, ◌≤◌, Bool, true, false, ◌&&◌, nat_le, List, [], length, All, Option, Some, None, sym, arith, IsTrue, subst, refl}
 use Rattle.std.specs.Prelude.{option_and_then}
 use Rattle.std.proofs.lemmas.Bool.{and_parts, leb-true, eqb-true}
 use Rattle.std.proofs.lemmas.List.Elements.{All-nil, All-cons, All-head}
@@ -8,7 +8,7 @@ use Rattle.fw_base.specs.declared.params.Params.{Params}
 use Rattle.fw_base.specs.Sizes.{accepted}
 use Rattle.fw_frame.specs.Frames.{PlainFrame}
 use Rattle.fw_frame.specs.Frames as frames
-use Rattle.fw_frame.specs.Ranges.{number_fits, answer_fits, body_fits, asker_fits, values_fit, frame_fits}
+use Rattle.fw_frame.specs.Ranges.{number_fits, answer_fits, body_fits, values_fit, frame_fits}
 use Rattle.fw_frame.specs.View.{Given, Frame, viewed, viewed_answers}
 use Rattle.fw_frame.specs.Undoing.{frame_in}
 use Rattle.fw_frame.proofs.Undoing.{frame_in-only}

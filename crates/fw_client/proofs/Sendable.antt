@@ -1,20 +1,17 @@
 -- What a client sends: frames of some bytes and not too many, to agreement nodes of the deployment.
-use Rattle.std.proofs.Common.{◌≡◌, ℕ, zero, suc, ◌+◌, ◌≤◌, Bool, true, false, ◌&&◌, nat_eq, nat_lt, List, [], ◌∷◌, ◌++◌, length, map, All, Option, Some, None, sym, ap, subst, arith, IsTrue, inl, inr}
-use Rattle.std.proofs.lemmas.Bool.{lt-ltb, cases_Bool}
+use Rattle.std.proofs.Common.{◌≡◌, ℕ, ◌+◌, ◌≤◌, Bool, true, false, ◌&&◌, nat_eq, nat_lt, List, [], ◌∷◌, ◌++◌, length, map, All, Option, Some, None, subst, arith, inl, inr}
+use Rattle.std.proofs.lemmas.Bool.{cases_Bool}
 use Rattle.std.proofs.lemmas.List.{length-append}
-use Rattle.std.proofs.lemmas.List.Elements.{All-nil, All-cons}
+use Rattle.std.proofs.lemmas.List.Elements.{All-nil}
 use Rattle.fw_list.specs.Lists.{numbers_from}
 use Rattle.fw_list.specs.Numbers.{u32}
 use Rattle.fw_list.specs.declared.limits.TheConstants.{LONGEST_FRAME}
-use Rattle.fw_base.specs.declared.params.Params.{Params}
-use Rattle.fw_base.specs.declared.seat.Seat.{Seat}
 use Rattle.fw_base.specs.declared.seat.Seat.TheVariants as seats
 use Rattle.fw_base.specs.declared.slot.Slot.{Slot}
 use Rattle.fw_base.specs.declared.slot.Slot.TheVariants as slots
 use Rattle.fw_base.specs.Sizes.{agreements}
 use Rattle.fw_text.specs.Texts.{hash, Asked}
 use Rattle.fw_seal.specs.declared.types.BodyKey.{BodyKey}
-use Rattle.fw_seal.specs.declared.types.Direction.{Direction}
 use Rattle.fw_seal.specs.declared.types.Direction.TheVariants as way
 use Rattle.fw_op.specs.declared.op.Op.{Op}
 use Rattle.fw_op.specs.declared.reply.Reply.{Reply}
@@ -26,7 +23,7 @@ use Rattle.fw_trace.specs.Role.{kept, sends}
 use Rattle.fw_directory.specs.Directories.{PlainDirectory}
 use Rattle.fw_hand.specs.Hands.{PlainHand, key_in, values_in}
 use Rattle.fw_means.specs.Means.{value_of_bit, signed_by, sealed_by}
-use Rattle.fw_node.specs.Histories.{Taken, History, Out, IsSendable, AreSendable}
+use Rattle.fw_node.specs.Histories.{Taken, History, Out, AreSendable}
 use Rattle.fw_client.specs.Kept.{Speech}
 use Rattle.fw_client.specs.Standing.{Asker, rule_of, speech, speech_of}
 use Rattle.fw_node.proofs.Sendable.{to_all, agreements_fit}

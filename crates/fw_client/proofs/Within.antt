@@ -1,6 +1,5 @@
 -- How many submissions are taken, and that each of them can be asked, after a step.
-use Rattle.std.proofs.Common.{◌≡◌, ℕ, ◌+◌, ◌≤◌, List, [], ◌∷◌, ◌++◌, length, All, Option, Some, None, subst, sym, arith}
-use Rattle.std.specs.Option.{option_to_list}
+use Rattle.std.proofs.Common.{ℕ, ◌+◌, ◌≤◌, List, ◌∷◌, length, All, arith}
 use Rattle.std.proofs.lemmas.List.Elements.{All-head, All-tail, All-cons}
 use Rattle.fw_op.specs.declared.op.Op.{Op}
 use Rattle.fw_client.specs.Kept.{IsAskable}

@@ -1,13 +1,9 @@
 //! The request of a client as a frame, and where it goes.
 
-ghost use Rattle.std.specs.Prelude.{◌≡◌, ◌≤◌, ◌++◌, ◌∷◌, [], true, Some, length, map, take, OnOk, OnErr, IfOk, IsTrue};
-ghost use Rattle.fw_list.specs.Lists.{numbers_from};
-ghost use Rattle.fw_base.specs.Sizes.{accepted, agreements};
-ghost use Rattle.fw_base.specs.declared.seat.Seat.TheVariants as seats;
+ghost use Rattle.std.specs.Prelude.{◌≡◌, ◌≤◌, ◌++◌, ◌∷◌, [], true, Some, map, OnOk, OnErr, IfOk, IsTrue};
 ghost use Rattle.fw_base.specs.declared.slot.Slot.TheVariants as slots;
 ghost use Rattle.fw_text.specs.Texts.{hash, Asked};
 ghost use Rattle.fw_op.specs.Ops.{op_fits};
-ghost use Rattle.fw_trace.specs.Client as clients;
 ghost use Rattle.fw_directory.specs.Directories.{PlainDirectory};
 ghost use Rattle.fw_hand.specs.Hands.{key_in};
 ghost use Rattle.fw_means.specs.Means.{signed_by};

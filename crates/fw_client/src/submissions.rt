@@ -1,6 +1,6 @@
 //! The submissions of a client: one is asked at a time, the others wait, and the replies to them are accepted in order.
 
-ghost use Rattle.std.specs.Prelude.{◌≡◌, ◌≤◌, ◌-◌, ◌∷◌, [], false, ℕ, Some, IfOk, IfSome, IfNone, length, drop, reverse, nat_lt};
+ghost use Rattle.std.specs.Prelude.{◌≡◌, ◌≤◌, ◌-◌, ◌∷◌, [], false, Some, IfOk, IfSome, IfNone, length, drop, reverse, nat_lt};
 ghost use Rattle.fw_trace.specs.Client as clients;
 ghost use Rattle.fw_trace.specs.declared.Input.TheVariants.{Submitted, Tick};
 ghost use Rattle.fw_client.specs.Kept.{Speech, IsAskable, after};

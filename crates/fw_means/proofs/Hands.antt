@@ -1,6 +1,6 @@
 -- A hand has its keys, and the values of each of its slots.
-use Rattle.std.proofs.Common.{◌≡◌, ℕ, zero, suc, ◌+◌, ◌<◌, ◌≤◌, Bool, true, false, ◌&&◌, ◌||◌, nat_lt, nat_le, nat_eq, List, [], ◌∷◌, map, get_or, drop, Option, Some, None, refl, sym, ap, ◌∙◌, arith, length, inl, inr, if◌then◌else◌}
-use Rattle.std.proofs.lemmas.Bool.{and_from, or_cases, eq-eqb, eqb-false, lt-ltb, le-leb, cases_Bool, both_ways}
+use Rattle.std.proofs.Common.{◌≡◌, ℕ, zero, suc, ◌+◌, ◌<◌, ◌≤◌, true, nat_eq, List, [], ◌∷◌, map, get_or, drop, Some, None, refl, ap, ◌∙◌, arith, inl, inr}
+use Rattle.std.proofs.lemmas.Bool.{and_from, eq-eqb, eqb-false, lt-ltb, le-leb, cases_Bool}
 use Rattle.fw_base.specs.declared.params.Params.{Params}
 use Rattle.fw_list.specs.Lists.{numbers_from}
 use Rattle.fw_base.specs.declared.seat.Seat.{Seat}

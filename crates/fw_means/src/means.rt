@@ -1,7 +1,7 @@
 //! What the rules need, done: frames read and checked, digests signed by a hand, a reply's values joined from shares, and bodies
 //! sealed and opened.
 
-ghost use Rattle.std.specs.Prelude.{◌≡◌, ◌<◌, ◌≤◌, ◌^◌, None, List, length, map, zip, slice_index, All, EachIndex, IfOk, IfSome, IfNone, IsTrue, option_map, option_and_then};
+ghost use Rattle.std.specs.Prelude.{◌≡◌, ◌<◌, ◌≤◌, ◌^◌, None, length, map, zip, slice_index, All, EachIndex, IfOk, IfSome, IfNone, IsTrue, option_map, option_and_then};
 ghost use Rattle.fw_list.specs.declared.limits.TheConstants.{BODY_LEN, ROW_LEN, SIGNATURE_LEN};
 ghost use Rattle.fw_base.specs.Seats.{fits};
 ghost use Rattle.fw_shamir.specs.Polynomial.{AreDistinct, column};

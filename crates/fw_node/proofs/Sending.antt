@@ -1,10 +1,8 @@
 -- What was in an outbox stays in front, and what is left to send is sent.
-use Rattle.std.proofs.Common.{◌≡◌, ℕ, suc, ◌+◌, ◌-◌, ◌<◌, List, [], ◌∷◌, ◌++◌, length, map, take, drop, refl, sym, ap, ◌∙◌, arith, append_assoc}
+use Rattle.std.proofs.Common.{◌≡◌, ℕ, suc, ◌+◌, ◌-◌, ◌<◌, List, [], ◌∷◌, ◌++◌, length, map, take, drop, sym, ap, ◌∙◌, arith, append_assoc}
 use Rattle.std.proofs.Math.Seq.{take-append_seam}
 use Rattle.std.proofs.lemmas.List.{take-append-drop}
 use Rattle.fw_list.specs.Lists.{numbers_from}
-use Rattle.fw_base.specs.declared.seat.Seat.{Seat}
-use Rattle.fw_trace.specs.Client as clients
 
 pub begins_more : {A : Type 0} (old out : List A) (x : A) → take (length old) out ≡ old → take (length old) (out ++ x ∷ []) ≡ old
 begins_more old out x begins =

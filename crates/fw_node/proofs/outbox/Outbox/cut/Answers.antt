@@ -1,5 +1,5 @@
 -- The first so many of the frames.
-use Rattle.std.proofs.Common.{◌≡◌, sym}
+use Rattle.std.proofs.Common.{sym}
 use Rattle.std.specs.List.{take-map}
 use Rattle.fw_node.specs.Histories.{out_of}
 use Rattle.fw_node.proofs.outbox.Outbox.cut.Goals as goal
