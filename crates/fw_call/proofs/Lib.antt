@@ -1,4 +1,5 @@
 -- The files of lemmas.
+pub mod Outcomes
 pub mod Known
 pub mod Plans
 pub mod Answering

@@ -1,7 +1,8 @@
 -- What follows of the status that a text was written with.
-use Rattle.std.proofs.Common.{◌≡◌, ◌⊎◌, inl, inr, Some, sym, ◌∙◌, subst}
+use Rattle.std.proofs.Common.{◌≡◌, ℕ, ◌⊎◌, inl, inr, Some, sym, ◌∙◌, subst}
 use Rattle.fw_command.specs.declared.command.Command.{Command}
 use Rattle.fw_sched.specs.declared.fault.InputFault.{InputFault}
+use Rattle.fw_rules.specs.declared.limits.Which.{Which}
 use Rattle.fw_call.specs.declared.status.Status.{Status}
 use Rattle.fw_call.specs.declared.status.Status.TheVariants as status
 
@@ -24,3 +25,8 @@ same_command c d e = cc
 pub same_fault : (r : Status) (f g : InputFault) → (r ≡ status.Input f) ⊎ (r ≡ status.WriteFault) → r ≡ status.Input g → f ≡ g
 same_fault r f g (inl found) said = let e = sym found ∙ said in cc
 same_fault r f g (inr failed) said = absurd (let e = sym failed ∙ said in cc)
+
+-- and so is a limit
+pub same_limit : (r : Status) (step other : ℕ) (which kind : Which) → (r ≡ status.Limit step which) ⊎ (r ≡ status.WriteFault) → r ≡ status.Limit other kind → status.Limit step which ≡ status.Limit other kind
+same_limit r step other which kind (inl found) said = sym found ∙ said
+same_limit r step other which kind (inr failed) said = absurd (let e = sym failed ∙ said in cc)

@@ -13,18 +13,19 @@ use Rattle.fw_sched.specs.declared.fault.InputFault.{InputFault}
 use Rattle.fw_sched.specs.declared.fault.InputFault.TheVariants as input
 use Rattle.fw_sched.specs.Document.{IsDocument}
 use Rattle.fw_sched.specs.Faults.{IsFault}
-use Rattle.fw_sched.specs.Simple.{is_simple_plan}
+use Rattle.fw_sched.specs.Replayed.{can_replay}
+use Rattle.fw_directory.specs.Directories.{PlainDirectory}
 use Rattle.fw_deal.specs.Deals.{PlainDeal, IsDealtFile}
+use Rattle.fw_rules.specs.declared.limits.Which.{Which}
 use Rattle.fw_op.specs.declared.op.Op.{Op}
-use Rattle.typed_node.specs.declared.Message.{Message}
 use Rattle.fw_trace.specs.Trace.{Trace}
-use Rattle.fw_law_reply.specs.Laws.{AcceptsAnswers, LetsDownCertificates}
-use Rattle.fw_world.specs.Schedule.{IsRunOf}
+use Rattle.fw_law_honest.specs.Laws.{AcceptsAnswers, LetsDownCertificates}
+use Rattle.fw_world.specs.Plans.{deal_of, IsRunOf, FailsAt, IsWithin}
 use Rattle.fw_world.specs.Replay.{IsReportOf}
 use Rattle.fw_call.specs.declared.limits.TheConstants.{LONGEST_INPUT}
 use Rattle.fw_call.specs.declared.status.Status.{Status}
 use Rattle.fw_call.specs.declared.status.Status.TheVariants as status
-use Rattle.fw_call.specs.Lines.{usage_line, read_line, too_long_line, later_line, input_line}
+use Rattle.fw_call.specs.Lines.{usage_line, read_line, too_long_line, later_line, limit_line, input_line}
 
 -- ---- what the words ask for
 
@@ -53,21 +54,17 @@ pub record IsDocumentOf (P : Plan → Type 0) (bytes : List ℕ) : Type 0 where
   pub only : (other : Plan) → IsDocument bytes other → other ≡ plan
   pub holds : P plan
 
--- the bytes are the document of a plan, and this holds of the plan and the trace of its run
-abbrev pub HoldsOfRun : (Plan → Trace Message Op → Type 0) → List ℕ → Type 0
-HoldsOfRun P bytes = (p : Plan) × (t : Trace Message Op) × IsDocument bytes p × IsRunOf p t × P p t
+-- the bytes are the document of a plan, and this holds of its deal, of the deal's directory and of the trace of its run
+abbrev pub HoldsOfRun : (PlainDeal → PlainDirectory → Trace (List ℕ) Op → Type 0) → List ℕ → Type 0
+HoldsOfRun P bytes = (p : Plan) × (d : PlainDirectory) × (t : Trace (List ℕ) Op) × IsDocument bytes p × IsRunOf p d t × P (deal_of p) d t
 
 -- each reply that a client accepted is the reference service's, at its number of the agreed list
 abbrev pub AcceptsOnlyAnswers : List ℕ → Type 0
-AcceptsOnlyAnswers bytes = HoldsOfRun (λ p t. AcceptsAnswers p.params t) bytes
+AcceptsOnlyAnswers bytes = HoldsOfRun AcceptsAnswers bytes
 
--- each message that the filter sent downwards is the certificate of a number of the agreed list
+-- each frame that a filter sent downwards is the certificate of a number of the agreed list, in all its bytes
 abbrev pub LetsDownOnlyCertificates : List ℕ → Type 0
-LetsDownOnlyCertificates bytes = HoldsOfRun (λ p t. LetsDownCertificates t) bytes
-
--- the deal of a plan's sizes, seed and records
-abbrev pub deal_of : Plan → PlainDeal
-deal_of p = record { origin = record { params = p.params; seed = p.seed }; starts = p.starts }
+LetsDownOnlyCertificates bytes = HoldsOfRun LetsDownCertificates bytes
 
 -- the deployment has the seat; a public file is nobody's
 abbrev pub has_seat : Params → Option Seat → Bool
@@ -76,9 +73,9 @@ has_seat p (Some seat) = fits p seat
 
 -- ---- what a command does with a plan
 
--- it can be done: the schedule can be replayed so far, the deployment has the seat
+-- it can be done: the schedule can be replayed so far and sends not too much, the deployment has the seat
 abbrev pub CanDo : Command → Plan → Type 0
-CanDo Replay p = IsTrue (is_simple_plan p)
+CanDo Replay p = IsTrue (can_replay p) × IsWithin p
 CanDo (Deal seat) p = IsTrue (has_seat p.params seat)
 
 -- the report of the plan's run, or the hand file of its deal
@@ -88,8 +85,13 @@ IsOutputOf (Deal seat) p text = IsDealtFile (deal_of p) seat text
 
 -- the schedule can't be replayed so far
 abbrev pub MustWait : Command → Plan → Type 0
-MustWait Replay p = is_simple_plan p ≡ false
+MustWait Replay p = can_replay p ≡ false
 MustWait (Deal seat) p = ⊥
+
+-- it can be replayed so far, and would send too much of this at this step
+abbrev pub PassesLimit : ℕ → Which → Command → Plan → Type 0
+PassesLimit step which Replay p = IsTrue (can_replay p) × FailsAt p step which
+PassesLimit step which (Deal seat) p = ⊥
 
 -- the deployment lacks the seat
 abbrev pub LacksSeat : Command → Plan → Type 0
@@ -107,6 +109,7 @@ abbrev pub IsRight : Command → List ℕ → Status → Type 0
 IsRight command bytes status.TooLong = LONGEST_INPUT < length bytes
 IsRight command bytes (status.Input fault) = (length bytes ≤ LONGEST_INPUT) × IsInputFault command bytes fault
 IsRight command bytes status.Later = (length bytes ≤ LONGEST_INPUT) × DocumentWhere (MustWait command) bytes
+IsRight command bytes (status.Limit step which) = (length bytes ≤ LONGEST_INPUT) × DocumentWhere (PassesLimit step which command) bytes
 IsRight command bytes status.Ok = (length bytes ≤ LONGEST_INPUT) × DocumentWhere (CanDo command) bytes
 IsRight command bytes _ = ⊥
 
@@ -137,13 +140,14 @@ abbrev pub Deals : Option Seat → Option (List ℕ) → List ℕ → Type 0
 Deals seat left text = Outputs (Deal seat) left text
 
 -- the text of the outcome of a command at a source that had this left and of which the count of faults was and is this: the
--- line of a failed read, of an input that is too long, wrong, or can't be replayed so far, or the output
+-- line of a failed read, of an input that is too long, wrong, can't be replayed so far or sends too much, or the output
 abbrev pub IsTextOf : Command → Option (List ℕ) → ℕ → ℕ → List ℕ → Type 0
 IsTextOf command left before after text =
     (Rose before after × (text ≡ read_line))
     ⊎ (IfSome left (λ bytes. IsRight command bytes status.TooLong) × (text ≡ too_long_line))
     ⊎ ((fault : InputFault) × IfSome left (λ bytes. IsRight command bytes (status.Input fault)) × (text ≡ input_line fault))
     ⊎ (IfSome left (λ bytes. IsRight command bytes status.Later) × (text ≡ later_line))
+    ⊎ ((step : ℕ) × (which : Which) × IfSome left (λ bytes. IsRight command bytes (status.Limit step which)) × (text ≡ limit_line step which))
     ⊎ Outputs command left text
 
 -- and of words, which may be no command

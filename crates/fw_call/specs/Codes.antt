@@ -10,5 +10,6 @@ code_of status.ReadFault = 2
 code_of status.WriteFault = 3
 code_of (status.Input fault) = 5
 code_of status.TooLong = 6
+code_of (status.Limit step which) = 9
 code_of status.Memory = 10
 code_of status.Later = 11

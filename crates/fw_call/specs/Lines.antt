@@ -2,6 +2,8 @@
 use Rattle.std.specs.Prelude.{ℕ, List, ◌++◌, codes, decimal}
 use Rattle.fw_sched.specs.declared.fault.InputFault.{InputFault}
 use Rattle.fw_sched.specs.declared.fault.InputFault.TheVariants as input
+use Rattle.fw_rules.specs.declared.limits.Which.{Which}
+use Rattle.fw_rules.specs.declared.limits.Which.TheVariants as which
 
 abbrev pub usage_line : List ℕ
 usage_line = codes "fault usage\n"
@@ -25,6 +27,14 @@ input_words (input.Faulty index) = codes "faulty " ++ decimal index
 input_words (input.Step index) = codes "step " ++ decimal index
 input_words input.Seat = codes "seat"
 input_words input.Hand = codes "hand"
+
+-- what a run would send too much of, and at which step
+abbrev pub which_word : Which → List ℕ
+which_word which.Frames = codes "frames"
+which_word which.Bytes = codes "bytes"
+
+abbrev pub limit_line : ℕ → Which → List ℕ
+limit_line step which = codes "fault limit " ++ decimal step ++ codes " " ++ which_word which ++ codes "\n"
 
 abbrev pub input_line : InputFault → List ℕ
 input_line fault = codes "fault input " ++ input_words fault ++ codes "\n"

@@ -4,12 +4,14 @@ ghost use Rattle.std.specs.Prelude.{◌≡◌, ◌+◌, ◌⊎◌, ◌≤◌, �
 ghost use Rattle.fw_base.specs.Faults.{Rose};
 ghost use Rattle.fw_io.specs.Source.{ReadsUpTo};
 ghost use Rattle.fw_sched.specs.declared.fault.InputFault.TheVariants as input;
-ghost use Rattle.fw_sched.specs.Simple.{is_simple_plan};
+ghost use Rattle.fw_sched.specs.Replayed.{can_replay};
+ghost use Rattle.fw_rules.specs.declared.limits.Which.{Which};
 ghost use Rattle.fw_deal.specs.Deals.{IsDealtFile};
+ghost use Rattle.fw_world.specs.Plans.{deal_of, FailsAt, IsWithin};
 ghost use Rattle.fw_world.specs.Replay.{IsReportOf};
 ghost use Rattle.fw_call.specs.declared.limits.TheConstants.{LONGEST_INPUT};
 ghost use Rattle.fw_call.specs.declared.status.Status.{Status};
-ghost use Rattle.fw_call.specs.Answer.{deal_of, has_seat, CanDo, IsOutputOf, IsOutput, IsRight, Outputs};
+ghost use Rattle.fw_call.specs.Answer.{has_seat, CanDo, IsOutputOf, IsOutput, IsRight, Outputs};
 ghost use Rattle.fw_call.specs.Reasons.{IsPlan, IsReason, IsRightOr, IsOrMemory, HasRead};
 
 use crate::LONGEST_INPUT;
@@ -18,8 +20,9 @@ use fw_command::Command;
 use fw_deal::deal_file;
 use fw_io::{ReadAll, Source, read_all};
 use fw_list::{Bytes, Memory};
+use fw_rules::Which;
 use fw_sched::{InputFault, Plan, read_plan};
-use fw_world::replay;
+use fw_world::{RunFault, replay};
 use std::alloc::Global;
 
 /// Why there is no output.
@@ -29,6 +32,7 @@ pub(crate) enum NoOutput {
     TooLong,
     Input(InputFault),
     Later,
+    Limit { step: u32, which: Which },
     Memory,
 }
 
@@ -44,15 +48,21 @@ impl From<Memory> for NoOutput {
 }
 
 /// The report of a plan, if its schedule can be replayed so far.
-fn report_of(alloc: Global, plan: &Plan) -> Result<Bytes, NoOutput>
-    requires { IsPlan plan.now }
-    ensures ok { IfOk result (λ text. IsTrue (is_simple_plan plan.now) × IsReportOf plan.now text) }
-    ensures err { IfErr result (λ why. ((why ≡ NoOutput.Later) × (is_simple_plan plan.now ≡ false)) ⊎ (why ≡ NoOutput.Memory)) }
+fn report_of(alloc: Global, plan: Plan) -> Result<Bytes, NoOutput>
+    requires { IsPlan plan }
+    ensures ok { IfOk result (λ text. (IsTrue (can_replay plan) × IsWithin plan) × IsReportOf plan text) }
+    ensures err { IfErr result (λ why. ((why ≡ NoOutput.Later) × (can_replay plan ≡ false))
+        ⊎ ((step : ℕ) × (which : Which) × (why ≡ NoOutput.Limit step which) × IsTrue (can_replay plan) × FailsAt plan step which)
+        ⊎ (why ≡ NoOutput.Memory)) }
 {
-    if !plan.is_simple() {
+    if !plan.can_replay() {
         return Err(NoOutput::Later);
     }
-    Ok(replay(alloc, plan)?)
+    match replay(alloc, plan) {
+        Ok(text) => Ok(text),
+        Err(RunFault::Limit { step, which }) => Err(NoOutput::Limit { step, which }),
+        Err(RunFault::Memory) => Err(NoOutput::Memory),
+    }
 }
 
 /// Whether the deployment has the seat. A public file is nobody's.
@@ -80,14 +90,14 @@ fn file_of(alloc: Global, plan: &Plan, seat: Option<Seat>) -> Result<Bytes, NoOu
 }
 
 /// The output of a command for a plan.
-fn output_of(alloc: Global, command: Command, plan: &Plan) -> Result<Bytes, NoOutput>
-    requires { IsPlan plan.now }
-    ensures ok { IfOk result (λ text. CanDo command plan.now × IsOutputOf command plan.now text) }
-    ensures err { IfErr result (λ why. IsReason command plan.now why) }
+fn output_of(alloc: Global, command: Command, plan: Plan) -> Result<Bytes, NoOutput>
+    requires { IsPlan plan }
+    ensures ok { IfOk result (λ text. CanDo command plan × IsOutputOf command plan text) }
+    ensures err { IfErr result (λ why. IsReason command plan why) }
 {
     match command {
         Command::Replay => report_of(alloc, plan),
-        Command::Deal { seat } => file_of(alloc, plan, seat),
+        Command::Deal { seat } => file_of(alloc, &plan, seat),
     }
 }
 
@@ -100,7 +110,7 @@ fn answer_of(alloc: Global, command: Command, bytes: &[u8]) -> Result<Bytes, NoO
     ensures fault { ¬ IsErrOf result NoOutput.Fault }
 {
     match read_plan(alloc, bytes)? {
-        Ok(plan) => output_of(alloc, command, &plan),
+        Ok(plan) => output_of(alloc, command, plan),
         Err(fault) => Err(NoOutput::Input(fault)),
     }
 }

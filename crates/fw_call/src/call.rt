@@ -8,14 +8,15 @@ ghost use Rattle.fw_io.specs.Source.{ReadsUpTo};
 ghost use Rattle.fw_command.specs.declared.command.Command.{Command};
 ghost use Rattle.fw_command.specs.Commands.{IsCommand};
 ghost use Rattle.fw_sched.specs.declared.fault.InputFault.{InputFault};
+ghost use Rattle.fw_rules.specs.declared.limits.Which.{Which};
 ghost use Rattle.fw_call.specs.declared.limits.TheConstants.{LONGEST_INPUT};
 ghost use Rattle.fw_call.specs.declared.status.Status.TheVariants as status;
-ghost use Rattle.fw_call.specs.Lines.{usage_line, read_line, too_long_line, later_line, input_line};
+ghost use Rattle.fw_call.specs.Lines.{usage_line, read_line, too_long_line, later_line, limit_line, input_line};
 ghost use Rattle.fw_call.specs.Answer.{IsReplay, IsDeal, HasCommand, AcceptsOnlyAnswers, LetsDownOnlyCertificates, IsRight, Appends, AppendsPart, Reports, Deals, IsOutcomeText};
 
 use crate::Status;
 use crate::answer::{NoOutput, answer_from};
-use crate::line::input_line;
+use crate::line::{input_line, limit_line};
 use fw_base::Link;
 use fw_command::command_of;
 use fw_io::{Sink, Source, write_all};
@@ -63,11 +64,14 @@ pub fn firewall<S: Source, K: Sink, L: Link>(
     ensures read_to_the_end { result ≡ Status.Ok → IfSome (S.left source.old) (λ _. S.left source.new ≡ Some []) }
     ensures read_when_wrong { (fault : InputFault) → result ≡ Status.Input fault → IfSome (S.left source.old) (λ _. S.left source.new ≡ Some []) }
     ensures read_when_later { result ≡ Status.Later → IfSome (S.left source.old) (λ _. S.left source.new ≡ Some []) }
+    ensures read_when_limit { (step : ℕ) (which : Which) → result ≡ Status.Limit step which → IfSome (S.left source.old) (λ _. S.left source.new ≡ Some []) }
     ensures commands { result ≡ Status.Ok → HasCommand (map string_bytes words.now) }
 
     // Each answer where nothing failed is the right one for the words and for all that the source had left.
     ensures right { (command : Command) → IsCommand (map string_bytes words.now) command → ((result ≡ status.Ok) ⊎ (result ≡ status.TooLong) ⊎ (result ≡ status.Later)) → IfSome (S.left source.old) (λ bytes. IsRight command bytes result) }
     ensures input { (fault : InputFault) → result ≡ Status.Input fault → (command : Command) × IsCommand (map string_bytes words.now) command × IfSome (S.left source.old) (λ bytes. IsRight command bytes (Status.Input fault)) }
+
+    ensures limit { (step : ℕ) (which : Which) → result ≡ Status.Limit step which → (command : Command) × IsCommand (map string_bytes words.now) command × IfSome (S.left source.old) (λ bytes. IsRight command bytes (Status.Limit step which)) }
 
     ensures usage { result ≡ Status.Usage → ¬ HasCommand (map string_bytes words.now) }
     ensures other_words { ¬ HasCommand (map string_bytes words.now) → (source.new ≡ source.old) × ((result ≡ Status.Usage) ⊎ (result ≡ Status.WriteFault)) }
@@ -77,6 +81,8 @@ pub fn firewall<S: Source, K: Sink, L: Link>(
     ensures too_long_text { result ≡ Status.TooLong → Appends (K.written sink.old) too_long_line (K.written sink.new) }
     ensures input_text { (fault : InputFault) → result ≡ Status.Input fault → Appends (K.written sink.old) (input_line fault) (K.written sink.new) }
     ensures later_text { result ≡ Status.Later → Appends (K.written sink.old) later_line (K.written sink.new) }
+
+    ensures limit_text { (step : ℕ) (which : Which) → result ≡ Status.Limit step which → Appends (K.written sink.old) (limit_line step which) (K.written sink.new) }
 
     ensures write_fault { result ≡ Status.WriteFault → Rose (K.faults sink.old) (K.faults sink.new) }
     ensures write_fault_text { result ≡ Status.WriteFault → (text : List ℕ)
@@ -113,6 +119,10 @@ pub fn firewall<S: Source, K: Sink, L: Link>(
         Err(NoOutput::Later) => written(sink, Status::Later, b"fault later\n"),
         Err(NoOutput::Input(fault)) => match input_line(alloc, &fault) {
             Ok(line) => written(sink, Status::Input(fault), line.items()),
+            Err(_) => Status::Memory,
+        },
+        Err(NoOutput::Limit { step, which }) => match limit_line(alloc, step, which) {
+            Ok(line) => written(sink, Status::Limit { step, which }, line.items()),
             Err(_) => Status::Memory,
         },
         Err(NoOutput::Memory) => Status::Memory,

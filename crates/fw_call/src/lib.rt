@@ -8,6 +8,7 @@ mod line;
 mod status;
 
 pub use call::firewall;
+pub use fw_rules::Which;
 pub use fw_sched::InputFault;
 pub use limits::LONGEST_INPUT;
 pub use status::Status;

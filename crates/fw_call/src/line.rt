@@ -1,9 +1,10 @@
-//! The line that names what is wrong with an input.
+//! The lines that name what is wrong with an input, and what a run would send too much of.
 
 ghost use Rattle.std.specs.Prelude.{◌≡◌, ◌++◌, IfOk, OnOk};
-ghost use Rattle.fw_call.specs.Lines.{input_words, input_line};
+ghost use Rattle.fw_call.specs.Lines.{input_words, input_line, which_word, limit_line};
 
 use fw_list::{Bytes, Memory};
+use fw_rules::Which;
 use fw_sched::InputFault;
 use std::alloc::Global;
 
@@ -44,6 +45,28 @@ pub(crate) fn input_line(alloc: Global, fault: &InputFault) -> Result<Bytes, Mem
 {
     let mut line = Bytes::copy_of(alloc, b"fault input ")?;
     add_words(&mut line, fault)?;
+    line.append(b"\n")?;
+    Ok(line)
+}
+
+/// The word of what would be too much.
+fn which_word(which: Which) -> &'static [u8]
+    ensures { result.now ≡ which_word which }
+{
+    match which {
+        Which::Frames => b"frames",
+        Which::Bytes => b"bytes",
+    }
+}
+
+/// The line of a run that would send too much at a step.
+pub(crate) fn limit_line(alloc: Global, step: u32, which: Which) -> Result<Bytes, Memory>
+    ensures { IfOk result (λ line. line ≡ limit_line step which) }
+{
+    let mut line = Bytes::copy_of(alloc, b"fault limit ")?;
+    line.append_number(step)?;
+    line.append(b" ")?;
+    line.append(which_word(which))?;
     line.append(b"\n")?;
     Ok(line)
 }

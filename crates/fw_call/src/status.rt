@@ -4,6 +4,7 @@ ghost use Rattle.std.specs.Prelude.{◌≡◌};
 ghost use Rattle.std.specs.Process.{exit_status};
 ghost use Rattle.fw_call.specs.Codes.{code_of};
 
+use fw_rules::Which;
 use fw_sched::InputFault;
 use std::process::ExitCode;
 
@@ -24,6 +25,8 @@ pub enum Status {
     TooLong,
     /// The input is a document whose schedule can't be replayed so far.
     Later,
+    /// The run of the document's schedule would send too many frames, or too many bytes, at the step with this index.
+    Limit { step: u32, which: Which },
     /// Memory ran out.
     Memory,
 }
@@ -40,6 +43,7 @@ impl Status {
             Status::WriteFault => 3,
             Status::Input(_) => 5,
             Status::TooLong => 6,
+            Status::Limit { .. } => 9,
             Status::Memory => 10,
             Status::Later => 11,
         }

@@ -144,6 +144,8 @@ impl Node for ClientNode {
 
     ghost own = { λ n. Client n.client };
 
+    ghost hand = { λ n. n.hand };
+
     ghost rule = { rule_of };
 
     ghost stands_for = { StandsFor };

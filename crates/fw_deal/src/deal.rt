@@ -70,6 +70,13 @@ impl Deal {
         &self.directory
     }
 
+    /// The same, where nothing else of the deal is needed any more.
+    pub fn into_directory(self) -> Directory
+        ensures { IsDirectoryOf self.origin result }
+    {
+        self.directory
+    }
+
     /// The value that is dealt for a place.
     pub fn dealt(&self, place: &Place) -> [u8; 32]
         requires { IsTrue (place_fits self.now.origin.params place.now) }

@@ -5,6 +5,7 @@ ghost use Rattle.fw_base.specs.declared.params.Params.{Params};
 ghost use Rattle.fw_base.specs.declared.seat.Seat.{Seat};
 ghost use Rattle.fw_base.specs.Seats.{fits};
 ghost use Rattle.fw_directory.specs.Directories.{PlainDirectory};
+ghost use Rattle.fw_hand.specs.Hands.{PlainHand};
 ghost use Rattle.fw_node.specs.Histories.{Out, History, taken, IsGiven, AreSendable};
 ghost use Rattle.fw_node.specs.declared.node.NodeFault.TheVariants as fault;
 
@@ -40,6 +41,9 @@ pub trait Node {
 
     ghost own: { Self → Seat };
 
+    /// The hand that it has.
+    ghost hand: { Self → PlainHand };
+
     /// What it sends on the newest input of a history that isn't empty, under a directory.
     ghost rule: { Self → PlainDirectory → History → Out };
 
@@ -67,6 +71,7 @@ pub trait Node {
         requires op { IsGiven input }
         ensures params { params self.new ≡ params self.old }
         ensures own { own self.new ≡ own self.old }
+        ensures hand { hand self.new ≡ hand self.old }
         ensures rule { rule self.new ≡ rule self.old }
         ensures sends { (d : PlainDirectory) (h : History) → d.params ≡ params self.old → AreSendable (params self.old) (rule self.old d h) }
         ensures history { OnOk result ((h : History) → stands_for self.old directory.now h → stands_for self.new directory.now (taken input.entry ∷ h)) }

@@ -3,5 +3,5 @@ pub mod Members
 pub mod Reading
 pub mod Document
 pub mod Faults
-pub mod Simple
+pub mod Replayed
 pub mod Stages

@@ -1,13 +1,12 @@
 //! The plan.
 
 ghost use Rattle.std.specs.Prelude.{◌≡◌};
-ghost use Rattle.std.specs.List.{list_all};
-ghost use Rattle.fw_step.specs.Simple.{is_simple};
-ghost use Rattle.fw_sched.specs.Simple.{is_simple_plan};
+ghost use Rattle.std.specs.List.{list_any};
+ghost use Rattle.fw_sched.specs.Replayed.{is_tick, can_replay};
 
 use fw_base::{Params, Seats};
 use fw_list::Items;
-use fw_op::{Op, Starts};
+use fw_op::Starts;
 use fw_step::Step;
 
 /// Steps in order.
@@ -23,33 +22,23 @@ pub struct Plan {
     pub steps: StepList,
 }
 
-fn is_simple(step: &Step) -> bool
-    ensures { result ≡ is_simple step.now }
+fn is_tick(step: &Step) -> bool
+    ensures { result ≡ is_tick step.now }
 {
-    match step {
-        Step::Submit { op, .. } => matches!(op, Op::Put { .. } | Op::Get { .. }),
-        Step::Flush { .. } => true,
-        _ => false,
-    }
+    matches!(step, Step::Tick { .. })
 }
 
-fn are_simple(steps: &[Step]) -> bool
-    ensures { result ≡ list_all is_simple steps.now }
+fn has_tick(steps: &[Step]) -> bool
+    ensures { result ≡ list_any is_tick steps.now }
 {
-    steps.iter().all(|step| is_simple(step))
+    steps.iter().any(|step| is_tick(step))
 }
 
 impl Plan {
-    /// Whether this is a plan of the kind that can be replayed so far: one node of each kind, nobody faulty, no records, and
-    /// steps that are submissions of puts and gets, or flushes.
-    pub fn is_simple(&self) -> bool
-        ensures { result ≡ is_simple_plan self.now }
+    /// Whether this is a plan of the kind that can be replayed so far: one agreement node, nobody faulty, and no ticks.
+    pub fn can_replay(&self) -> bool
+        ensures { result ≡ can_replay self.now }
     {
-        self.params.f == 0
-            && self.params.g == 0
-            && self.params.h == 0
-            && self.faulty.len() == 0
-            && self.starts.len() == 0
-            && are_simple(self.steps.items())
+        self.params.f == 0 && self.faulty.len() == 0 && !has_tick(self.steps.items())
     }
 }

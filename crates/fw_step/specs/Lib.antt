@@ -2,4 +2,3 @@
 pub mod Spelling
 pub mod Fitting
 pub mod Parts
-pub mod Simple

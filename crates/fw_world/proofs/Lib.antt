@@ -1,6 +1,3 @@
 -- The files of lemmas.
-pub mod Places
-pub mod Events
-pub mod Counting
-pub mod OwnRules
-pub mod Simple
+pub mod Parts
+pub mod Playing

@@ -1,16 +1,8 @@
-//! The replayer: nodes, what they send each other, the run of a schedule, its summary and its report.
+//! The replay of a plan over the nodes of its deployment, each with its hand of the plan's deal, and the report of the run.
 #![tactic(auto)]
 
-mod accepted;
-mod crossing;
-mod grid;
-mod lines;
-mod nodes;
-mod playing;
-mod pool;
-mod world;
+mod replaying;
+mod reporting;
 
-pub use grid::Grid;
-pub use nodes::{Cores, cores};
-pub use playing::replay;
-pub use world::World;
+pub use fw_grid::RunFault;
+pub use replaying::replay;

@@ -3,9 +3,8 @@
 use crate::shown::said;
 use crate::state::{CLIENTS, State};
 use fw_list::{Bytes, Memory};
-use fw_op::{Clients, Op, Start, Words, client_of, number_of};
+use fw_op::{Clients, Op, Start, Words, client_of};
 use std::alloc::Global;
-use typed_ref::Asked;
 
 /// The answer to a line: a comment and a blank line are their own.
 pub fn answer(alloc: Global, state: &mut State, line: &str) -> Result<Bytes, Memory> {
@@ -34,9 +33,6 @@ fn answered(
         "start" => start(alloc, state, words),
         "open" => Ok(Some(state.open(alloc)?)),
         "visible" => visible(alloc, state, words),
-        "execute" => execute(alloc, state, words),
-        "ask" => ask(alloc, state, words),
-        "reference" => Ok(Some(state.reference(alloc)?)),
         name => apply(alloc, state, name, words),
     }
 }
@@ -49,11 +45,6 @@ fn word<'a>(words: &mut Words<'a>) -> Option<&'a str> {
 /// The client that the next word names.
 fn client(words: &mut Words<'_>) -> Option<u32> {
     client_of(word(words)?, CLIENTS)
-}
-
-/// The stamp that the next word is.
-fn stamp(words: &mut Words<'_>) -> Option<u32> {
-    number_of(word(words)?, 0, u32::MAX)
 }
 
 /// The operation that the words are that are left.
@@ -131,42 +122,6 @@ fn apply(
     };
     match op(alloc, words)? {
         Some(op) => Ok(Some(state.apply(alloc, client, &op)?)),
-        None => Ok(None),
-    }
-}
-
-/// A client and a stamp.
-fn caller(words: &mut Words<'_>) -> Option<(u32, u32)> {
-    Some((client(words)?, stamp(words)?))
-}
-
-/// A client, a stamp and an operation.
-fn request(alloc: Global, words: &mut Words<'_>) -> Result<Option<Asked>, Memory> {
-    let Some((client, stamp)) = caller(words) else {
-        return Ok(None);
-    };
-    match op(alloc, words)? {
-        Some(op) => Ok(Some(Asked { client, stamp, op })),
-        None => Ok(None),
-    }
-}
-
-/// The reply of the replica to a client's operation under a stamp.
-fn execute(
-    alloc: Global,
-    state: &mut State,
-    words: &mut Words<'_>,
-) -> Result<Option<Bytes>, Memory> {
-    match request(alloc, words)? {
-        Some(asked) => Ok(Some(state.execute(alloc, &asked)?)),
-        None => Ok(None),
-    }
-}
-
-/// A request for the list that the reference answers.
-fn ask(alloc: Global, state: &mut State, words: &mut Words<'_>) -> Result<Option<Bytes>, Memory> {
-    match request(alloc, words)? {
-        Some(asked) => Ok(Some(state.ask(alloc, &asked)?)),
         None => Ok(None),
     }
 }

@@ -1,4 +1,4 @@
-//! Reads lines that speak to a store of records and to a replica, and prints one answer for each, so that cases are data:
+//! Reads lines that speak to a store of records, and prints one answer for each, so that cases are data:
 //! `stdin` says in its head which lines there are.
 #![tactic(auto)]
 

@@ -1,32 +1,27 @@
 //! What the lines so far have made. Each step says what is printed for it.
 
-use crate::shown::{said, shown_count, shown_replies, shown_view};
-use fw_list::{Bytes, Items, Memory};
+use crate::shown::{said, shown_count, shown_view};
+use fw_list::{Bytes, Memory};
 use fw_op::{Op, Starts};
 use fw_store::{Store, are_distinct};
 use std::alloc::Global;
-use typed_ref::{Asked, Replica};
 
 /// The clients that a line may name: two more than there are, so that a case can ask for one that isn't there.
 pub const CLIENTS: u32 = 10;
 
-/// The records for the next store, the store, the replica, and the list for the reference.
+/// The records for the next store, and the store.
 #[derive(Drop)]
 pub struct State {
     pub starts: Starts,
     store: Store,
-    replica: Replica,
-    asked: Items<Asked>,
 }
 
 impl State {
-    /// No records, and nothing asked.
+    /// No records.
     pub fn new(alloc: Global) -> Result<Self, Memory> {
         Ok(State {
             starts: Starts::new(alloc),
             store: Store::new(alloc, &[])?,
-            replica: Replica::new(alloc)?,
-            asked: Items::new(alloc),
         })
     }
 
@@ -67,22 +62,5 @@ impl State {
     pub fn apply(&mut self, alloc: Global, client: u32, op: &Op) -> Result<Bytes, Memory> {
         let reply = self.store.apply(client, op)?;
         reply.words(alloc)
-    }
-
-    /// The reply of the replica.
-    pub fn execute(&mut self, alloc: Global, asked: &Asked) -> Result<Bytes, Memory> {
-        let reply = self.replica.execute(asked.client, asked.stamp, &asked.op)?;
-        reply.words(alloc)
-    }
-
-    /// Adds to the list of the reference.
-    pub fn ask(&mut self, alloc: Global, asked: &Asked) -> Result<Bytes, Memory> {
-        self.asked.push(asked.copy(alloc)?)?;
-        said(alloc, "ask")
-    }
-
-    /// The answers of the reference to its list.
-    pub fn reference(&self, alloc: Global) -> Result<Bytes, Memory> {
-        shown_replies(alloc, self.asked.items())
     }
 }

@@ -1,0 +1,15 @@
+-- The frame of what was lent.
+use Rattle.std.proofs.Common.{◌≡◌, ◌∙◌}
+use Rattle.std.proofs.lemmas.Result.{IfOk-weaker}
+use Rattle.fw_frame.specs.Frames as frames
+use Rattle.fw_frame.specs.Plain.{plain_entry}
+use Rattle.fw_frame.specs.Spelling.{frame_bytes}
+use Rattle.fw_kept.specs.Kept.{entry_of}
+use Rattle.fw_act.proofs.Writing.{proposal_written}
+use Rattle.fw_act.proofs.acting.proposal_frame.Goals as goal
+
+pub returns : goal.returns
+returns c =
+    IfOk-weaker c.write.result (λ bytes. bytes ≡ frame_bytes (frames.Propose 0 c.args.number (plain_entry c.lent.result) c.args.sig.now)) _
+    (λ bytes is. is ∙ proposal_written 0 c.args.number (plain_entry c.lent.result) (entry_of c.args.entry.now) c.args.sig.now c.lent.ensures)
+    c.write.ensures

@@ -1,0 +1,16 @@
+-- Each filter of row 0 gets it.
+use Rattle.std.proofs.Common.{ap, ◌∙◌, map}
+use Rattle.std.proofs.lemmas.Result.{on_ok_weaker}
+use Rattle.fw_list.specs.Lists.{numbers_from}
+use Rattle.fw_base.specs.Sizes.{width}
+use Rattle.fw_base.specs.declared.seat.Seat.TheVariants as seats
+use Rattle.fw_means.specs.Means.{written}
+use Rattle.fw_act.proofs.Others.{sent_each}
+use Rattle.fw_act.proofs.sending.send_to_row0.Goals as goal
+
+pub returns-clause-sent : goal.returns-clause-sent
+returns-clause-sent c =
+    on_ok_weaker c.send_to_all.result
+    (λ sent hand own frame same. sent_each (seats.Filter 0) (numbers_from 0 (width c.args.directory.now.params)) c.items.result.now c.items-2.result.now (written frame) c.args.out.now c.send_to_all.new.self
+    (c.items.ensures ∙ c.in_ok-to.ensures ∙ ap (λ p. map (seats.Filter 0) (numbers_from 0 (width p))) c.params.ensures.same) (c.items-2.ensures ∙ same) sent)
+    c.send_to_all.ensures.ok

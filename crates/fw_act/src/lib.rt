@@ -1,0 +1,10 @@
+//! What an agreement node does in view 0: the acts that it has chosen, and what it keeps of the frames that it hears.
+#![tactic(auto)]
+
+mod acting;
+mod hearing;
+mod sending;
+mod signing;
+
+pub use acting::performs;
+pub use hearing::{hears_proposal, hears_reply, hears_vote, remembers_request, resends};

@@ -1,0 +1,35 @@
+-- What is chosen can be done.
+use Rattle.std.proofs.Common.{◌≡◌, ℕ}
+use Rattle.std.specs.Option.{option_map}
+use Rattle.std.proofs.lemmas.Result.{IfOk-weaker}
+use Rattle.fw_hand.specs.Hands.{PlainHand}
+use Rattle.fw_rules.specs.Agree as agree
+use Rattle.fw_kept.specs.Kept.{self_of, node_of, act_of}
+use Rattle.fw_agree.proofs.Signed.{doable_ok, owned_signed}
+use Rattle.fw_agree.proofs.passes.chosen.Goals as goal
+
+pub returns-in-Prepares-clause-doable : goal.returns-in-Prepares-clause-doable
+returns-in-Prepares-clause-doable c =
+    let p = c.args.directory.now.params in
+    doable_ok p c.args.number c.prepares.result c.requires.sizes c.requires.first c.requires.last c.prepares.ensures.number (c.prepares.ensures.signers p)
+
+pub returns-in-Prepares-clause-signed : goal.returns-in-Prepares-clause-signed
+returns-in-Prepares-clause-signed c = c.prepares.ensures.signers c.args.directory.now.params
+
+pub returns-in-Ups-clause-act : goal.returns-in-Ups-clause-act
+returns-in-Ups-clause-act c =
+    let d = c.args.directory.now in
+    let x = node_of c.args.keeps.now in
+    rw c.in-Ups.is
+    (IfOk-weaker c.goes_up.result (λ act. (hand : PlainHand) (own : ℕ) → option_map act_of act ≡ agree.goes_up (self_of d hand own) x c.args.number)
+    (λ act. (hand : PlainHand) → option_map act_of act ≡ agree.goes_up (self_of d hand c.args.own) x c.args.number) (λ act same hand. same hand c.args.own) c.goes_up.ensures.act)
+
+pub returns-in-Ups-clause-doable : goal.returns-in-Ups-clause-doable
+returns-in-Ups-clause-doable c =
+    let p = c.args.directory.now.params in
+    doable_ok p c.args.number c.goes_up.result c.requires.sizes c.requires.first c.requires.last c.goes_up.ensures.number
+    (c.goes_up.ensures.signers (owned_signed p c.args.keeps.now.committed c.requires.signed))
+
+pub returns-in-Ups-clause-signed : goal.returns-in-Ups-clause-signed
+returns-in-Ups-clause-signed c =
+    c.goes_up.ensures.signers (owned_signed c.args.directory.now.params c.args.keeps.now.committed c.requires.signed)

@@ -1,0 +1,22 @@
+-- One number more.
+use Rattle.std.proofs.Common.{◌+◌, ◌-◌, ap, sym, ◌∙◌}
+use Rattle.fw_list.specs.Lists.{numbers_from}
+use Rattle.fw_rules.specs.Agree.{acted, for_each}
+use Rattle.fw_kept.specs.Kept.{self_of}
+use Rattle.fw_agree.specs.Steps.{at, chooses}
+use Rattle.fw_agree.proofs.Going.{each_next}
+use Rattle.fw_agree.proofs.Beginning.{begins_on}
+use Rattle.fw_agree.proofs.passes.goes_over.Goals as goal
+
+pub loop-k-preserved : goal.loop-k-preserved
+loop-k-preserved c =
+    let me = self_of c.args.directory.now c.args.hand.now c.args.own in
+    let f = chooses c.args.pass me in
+    let s = at c.loop-k.keeps c.loop-k.out in
+    let k = c.loop-k.k in
+    let end = c.params.result.now.numbers in
+    record {
+      step = ap (for_each me f (numbers_from (k + 1 + 1) (end - (k + 1)))) (c.in_ok-does.ensures.step ∙ ap (acted me s) (c.in_ok-act.ensures.act c.args.hand.now)) ∙ sym (each_next me f k end s c.loop-k-test.true) ∙ c.loop-k.invariant.step;
+      signed = c.in_ok-does.ensures.signed;
+      begins = begins_on c.args.out.now c.loop-k.out c.does.new.out c.loop-k.invariant.begins c.in_ok-does.ensures.begins;
+    }

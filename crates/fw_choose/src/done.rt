@@ -1,0 +1,127 @@
+//! What was done at a number, and what is agreed there.
+
+ghost use Rattle.std.specs.Prelude.{◌≡◌, ◌&&◌, List, map, nat_eq, reverse, is_some, filter, max, if◌then◌else◌};
+ghost use Rattle.std.specs.List.{find, list_any};
+ghost use Rattle.std.specs.Option.{option_copied, option_map};
+ghost use Rattle.fw_trace.specs.Lists.{first_at};
+ghost use Rattle.fw_rules.specs.Agree as agree;
+ghost use Rattle.fw_rules.specs.Choices.{first_some};
+ghost use Rattle.fw_kept.specs.Kept.{entry_of, cast_of, pledge_of, agreed_of};
+
+use crate::entries::has_request;
+use fw_kept::{Cast, OwnedAgreed, OwnedEntry, Pledge};
+use fw_list::Newest;
+
+/// The last of these at a number, in a view.
+fn last_cast(casts: &[Cast], view: u32, number: u32) -> Option<&Cast>
+    ensures { option_copied result ≡ find (λ c. nat_eq c.view view && nat_eq c.number number) (reverse casts.now) }
+{
+    casts
+        .iter()
+        .rev()
+        .find(|cast| cast.view == view && cast.number == number)
+}
+
+/// What it has voted to prepare at a number, in a view, or has proposed there.
+pub(crate) fn cast_at(casts: &Newest<Cast>, view: u32, number: u32) -> Option<&OwnedEntry>
+    ensures { option_map entry_of (option_copied result) ≡ first_some (agree.cast_if view number) (map cast_of casts.now) }
+{
+    match last_cast(casts.oldest_first(), view, number) {
+        Some(cast) => Some(&cast.entry),
+        None => None,
+    }
+}
+
+/// Whether one of these is at a number, in a view.
+fn is_any_pledge(pledges: &[Pledge], view: u32, number: u32) -> bool
+    ensures { result ≡ list_any (λ c. nat_eq c.view view && nat_eq c.number number) (reverse pledges.now) }
+{
+    pledges
+        .iter()
+        .rev()
+        .any(|pledge| pledge.view == view && pledge.number == number)
+}
+
+/// Whether it has voted to commit at a number, in a view.
+pub(crate) fn has_pledged(pledges: &Newest<Pledge>, view: u32, number: u32) -> bool
+    ensures { result ≡ is_some (first_some (agree.pledge_if view number) (map pledge_of pledges.now)) }
+{
+    is_any_pledge(pledges.oldest_first(), view, number)
+}
+
+/// The last of these at a number.
+fn last_agreed(committed: &[OwnedAgreed], number: u32) -> Option<&OwnedAgreed>
+    ensures { option_copied result ≡ find (λ a. nat_eq a.number number) (reverse committed.now) }
+{
+    committed
+        .iter()
+        .rev()
+        .find(|agreed| agreed.number == number)
+}
+
+/// What is agreed at a number.
+pub(crate) fn agreed_at(committed: &Newest<OwnedAgreed>, number: u32) -> Option<&OwnedAgreed>
+    ensures found { option_copied result ≡ find (λ a. nat_eq a.number number) committed.now }
+    ensures is { option_map agreed_of (option_copied result) ≡ first_at (λ a. Some (a.number, a)) (map agreed_of committed.now) number }
+{
+    last_agreed(committed.oldest_first(), number)
+}
+
+/// Whether a request is in one of these, in a view.
+fn is_any_cast(casts: &[Cast], view: u32, client: u32, stamp: u32) -> bool
+    ensures { result ≡ list_any (λ c. nat_eq c.view view && agree.has_request client stamp (entry_of c.entry)) (reverse casts.now) }
+{
+    casts.iter().rev().any(|cast| cast.view == view && has_request(&cast.entry, client, stamp))
+}
+
+/// Whether a client's stamp is in what it has cast in a view.
+pub(crate) fn is_cast(casts: &Newest<Cast>, view: u32, client: u32, stamp: u32) -> bool
+    ensures { result ≡ list_any (λ c. nat_eq c.view view && agree.has_request client stamp c.entry) (map cast_of casts.now) }
+{
+    is_any_cast(casts.oldest_first(), view, client, stamp)
+}
+
+/// Whether a request is in one of these.
+fn is_any_agreed(committed: &[OwnedAgreed], client: u32, stamp: u32) -> bool
+    ensures { result ≡ list_any (λ a. agree.has_request client stamp (entry_of a.entry)) (reverse committed.now) }
+{
+    committed
+        .iter()
+        .rev()
+        .any(|agreed| has_request(&agreed.entry, client, stamp))
+}
+
+/// Whether a client's stamp is in what is agreed.
+pub(crate) fn is_agreed(committed: &Newest<OwnedAgreed>, client: u32, stamp: u32) -> bool
+    ensures { result ≡ list_any (λ a. agree.has_request client stamp a.entry) (map agreed_of committed.now) }
+{
+    is_any_agreed(committed.oldest_first(), client, stamp)
+}
+
+/// The greater of a number and of that of this, where it is in a view.
+fn greater(most: u32, cast: &Cast, view: u32) -> u32
+    ensures { result ≡ (if nat_eq cast.now.view view then max cast.now.number most else most) }
+{
+    if cast.view == view && cast.number > most {
+        return cast.number;
+    }
+    most
+}
+
+/// The greatest number of these in a view, or 0.
+fn greatest_of(casts: &[Cast], view: u32) -> u32
+    ensures { result ≡ agree.greatest (map (λ c. c.number) (filter (λ c. nat_eq c.view view) (map cast_of (reverse casts.now)))) }
+{
+    let mut most = 0;
+    for cast in casts {
+        most = greater(most, cast, view);
+    }
+    most
+}
+
+/// The greatest number at which it has cast in a view, or 0.
+pub(crate) fn greatest_cast(casts: &Newest<Cast>, view: u32) -> u32
+    ensures { result ≡ agree.greatest (map (λ c. c.number) (filter (λ c. nat_eq c.view view) (map cast_of casts.now))) }
+{
+    greatest_of(casts.oldest_first(), view)
+}

@@ -1,0 +1,14 @@
+//! The choices of an agreement node in view 0, by what it keeps: which request it proposes, what it votes for at a number, what is
+//! agreed there, and which number goes up. They change nothing.
+#![tactic(auto)]
+
+mod done;
+mod entries;
+mod offers;
+mod passes;
+mod replies;
+mod votes;
+
+pub use offers::{law_no_choice, offers_request};
+pub use passes::{commits, goes_up, pledges, prepares};
+pub use replies::{replied, reply_of, reply_to};

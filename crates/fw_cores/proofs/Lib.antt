@@ -1,0 +1,4 @@
+-- The files of lemmas.
+pub mod Dealt
+pub mod Growing
+pub mod Together

@@ -1,0 +1,9 @@
+-- One new client more.
+use Rattle.fw_base.specs.declared.seat.Seat.TheVariants as seats
+use Rattle.fw_client.specs.Standing.{StandsFor, rule_of}
+use Rattle.fw_cores.proofs.Growing.{fresh_more}
+use Rattle.fw_cores.proofs.clients.clients.Goals as goal
+
+pub loop-k-preserved : goal.loop-k-preserved
+loop-k-preserved c =
+    fresh_more (λ n. n.params) (λ n. seats.Client n.client) (λ n. n.hand) rule_of StandsFor (λ n. n.stopped) c.args.deal.now seats.Client c.loop-k.k c.loop-k.nodes c.push.new.self _ c.loop-k.invariant c.in_ok-client_node.ensures c.in_ok-push.ensures.ok

@@ -1,0 +1,4 @@
+-- The files of definitions.
+pub mod Kept
+pub mod Standing
+pub mod Executors

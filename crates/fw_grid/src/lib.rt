@@ -1,0 +1,15 @@
+//! The nodes of a deployment, of any four kinds: what they send each other, and the run of a schedule.
+#![tactic(auto)]
+
+mod cause;
+mod entering;
+mod fault;
+mod grid;
+mod machine;
+mod nodes;
+mod world;
+
+pub use fault::RunFault;
+pub use grid::Grid;
+pub use nodes::Nodes;
+pub use world::World;

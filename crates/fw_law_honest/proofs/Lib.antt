@@ -1,0 +1,17 @@
+-- The files of lemmas.
+pub mod Within
+pub mod Listed
+pub mod Frames
+pub mod Executing
+pub mod Filtering
+pub mod Asking
+pub mod Agreeing
+pub mod Speaking
+pub mod OneList
+pub mod Values
+pub mod Replying
+pub mod Told
+pub mod Sharing
+pub mod Letting
+pub mod Telling
+pub mod Laws

@@ -1,0 +1,7 @@
+-- The files of lemmas.
+pub mod Counting
+pub mod Told
+pub mod Clients
+pub mod Views
+pub mod Submitted
+pub mod Composed

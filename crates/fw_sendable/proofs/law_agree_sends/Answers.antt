@@ -1,0 +1,5 @@
+use Rattle.fw_sendable.proofs.Agreeing.{agree_sends}
+use Rattle.fw_sendable.proofs.law_agree_sends.Goals as goal
+
+pub returns : goal.returns
+returns c = λ p i hand d h sizes same. agree_sends p i hand sizes d h same

@@ -1,6 +1,0 @@
--- The nodes of a grid.
-use Rattle.fw_world.specs.declared.grid.Grid.{Grid}
-use Rattle.fw_world.specs.Nodes.{Nodes}
-
-abbrev pub nodes_of : {A E F C : Type 0} → Grid A E F C → Nodes A E F C
-nodes_of g = record { agree = g.agree; exec = g.exec; filter = g.filter; clients = g.clients.items }

@@ -1,0 +1,49 @@
+//! The report of nodes at work.
+
+ghost use Rattle.std.specs.Prelude.{◌≡◌, IfOk};
+ghost use Rattle.fw_rules.specs.World.{Deployed};
+ghost use Rattle.fw_seen.specs.Summary.{report_of};
+ghost use Rattle.fw_world.specs.Played.{ArePlayed};
+
+use fw_agree::AgreeNode;
+use fw_client::ClientNode;
+use fw_digest::Steps;
+use fw_exec::ExecNode;
+use fw_filter::FilterNode;
+use fw_grid::World;
+use fw_hand::Hand;
+use fw_list::{Bytes, Memory};
+use fw_node::Node;
+use fw_report::report;
+use fw_seen::{Counts, summary};
+use fw_store::Store;
+use std::alloc::Global;
+use std::sync::ledger::Ledger;
+
+/// The report of what the nodes of a deployment did so far, by the keys that an executor has.
+pub(crate) fn report_of<L: Ledger>(
+    alloc: Global,
+    world: &World<AgreeNode, ExecNode<Store>, FilterNode, ClientNode>,
+    keys: &Hand,
+    steps: &mut Steps<L>,
+) -> Result<Bytes, Memory>
+    requires { (d : Deployed) × ArePlayed ⟦<ClientNode as Node>⟧.hand d world.now.seen keys.now }
+    ensures { IfOk result (λ text. (d : Deployed) → ArePlayed ⟦<ClientNode as Node>⟧.hand d world.now.seen keys.now → text ≡ report_of d world.now.seen.trace) }
+{
+    let counts = Counts {
+        submissions: world.submissions(),
+        events: world.events(),
+        rest: world.is_at_rest(),
+    };
+    let summary = summary(
+        alloc,
+        world.directory(),
+        keys,
+        world.clients(),
+        world.frames(),
+        counts,
+        steps,
+    )?;
+    let text = report(alloc, &summary)?;
+    Ok(text)
+}

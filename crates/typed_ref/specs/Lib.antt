@@ -1,2 +1,0 @@
--- The definitions that the clauses cite.
-pub mod Reference
