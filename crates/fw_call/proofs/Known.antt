@@ -1,5 +1,5 @@
 -- What is known of a value that is told.
-use Rattle.std.proofs.Common.{◌≡◌, ◌<◌, ◌≤◌, List, [], ◌∷◌, length, get_or, Option, Some, None, IfSome, ap, sym, subst, arith}
+use Rattle.std.proofs.Common.{◌≡◌, Option, Some, None, IfSome, sym, subst}
 
 -- what holds of a value holds of the one that is told
 pub told : {A : Type 0} (Q : A → Type 0) (o : Option A) (x : A) → IfSome o (λ y. x ≡ y) → Q x → IfSome o Q

@@ -12,7 +12,7 @@ use Rattle.fw_rules.specs.World.{world}
 use Rattle.fw_law_directory.proofs.OneDirectory.{one_directory}
 use Rattle.fw_law_honest.specs.Laws.{deployed}
 use Rattle.fw_grid.specs.Schedule.{schedule}
-use Rattle.fw_world.specs.Plans.{deal_of, IsRunOf, FailsAt, IsWithin}
+use Rattle.fw_world.specs.Plans.{deal_of, FailsAt, IsWithin}
 
 abbrev Outcome : Type 0
 Outcome = Result (Trace (List ℕ) Op) (ℕ × Which)

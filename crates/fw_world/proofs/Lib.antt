@@ -1,3 +1,3 @@
 -- The files of lemmas.
 pub mod Parts
-pub mod Playing
+pub mod OwnRun

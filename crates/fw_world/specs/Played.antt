@@ -1,5 +1,5 @@
 -- Nodes at work in a deployment, as a report reads them.
-use Rattle.std.specs.Prelude.{◌≡◌, ℕ, ◌<◌, Bool, false, Some, slice_get, IsTrue}
+use Rattle.std.specs.Prelude.{◌≡◌, ℕ, ◌<◌, false, Some, slice_get, IsTrue}
 use Rattle.fw_base.specs.declared.seat.Seat.TheVariants.{Exec, Client}
 use Rattle.fw_base.specs.Sizes.{accepted}
 use Rattle.fw_hand.specs.Hands.{PlainHand}

@@ -10,12 +10,12 @@ ghost use Rattle.fw_rules.specs.declared.limits.Which.{Which};
 ghost use Rattle.fw_world.specs.Plans.{FailsAt};
 ghost use Rattle.fw_world.specs.Replay.{IsReportOf};
 
+use crate::playing::play;
 use crate::reporting::report_of;
 use fw_base::Seat;
-use fw_cores::cores;
 use fw_deal::Deal;
 use fw_digest::Steps;
-use fw_grid::{RunFault, World};
+use fw_grid::RunFault;
 use fw_law_honest::{law_accepted, law_certificates};
 use fw_list::Bytes;
 use fw_sched::Plan;
@@ -39,15 +39,13 @@ fn replay_counted<L: Ledger>(alloc: Global, plan: Plan, blank: Blank) -> Result<
     law_certificates();
     let deal = Deal::new(alloc, &plan.params, &plan.seed, plan.starts.items())?;
     let keys = deal.hand(alloc, Seat::Exec(0))?;
-    let grid = cores(alloc, &deal)?;
-    let mut world = World::new(alloc, deal.into_directory(), plan.steps, grid)?;
     let mut steps = Steps::<L>::new(blank);
-    if let Err(fault) = world.run(&mut steps) {
-        return Err(fault);
-    }
-    match report_of(alloc, &world, &keys, &mut steps) {
-        Ok(text) => Ok(text),
-        Err(_) => Err(RunFault::Memory),
+    match play(alloc, plan, deal, &mut steps) {
+        Ok(world) => match report_of(alloc, &world, &keys, &mut steps) {
+            Ok(text) => Ok(text),
+            Err(_) => Err(RunFault::Memory),
+        },
+        Err(fault) => Err(fault),
     }
 }
 

@@ -5,25 +5,21 @@ ghost use Rattle.fw_rules.specs.World.{Deployed};
 ghost use Rattle.fw_seen.specs.Summary.{report_of};
 ghost use Rattle.fw_world.specs.Played.{ArePlayed};
 
-use fw_agree::AgreeNode;
+use crate::playing::Cast;
 use fw_client::ClientNode;
 use fw_digest::Steps;
-use fw_exec::ExecNode;
-use fw_filter::FilterNode;
-use fw_grid::World;
 use fw_hand::Hand;
 use fw_list::{Bytes, Memory};
 use fw_node::Node;
 use fw_report::report;
 use fw_seen::{Counts, summary};
-use fw_store::Store;
 use std::alloc::Global;
 use std::sync::ledger::Ledger;
 
 /// The report of what the nodes of a deployment did so far, by the keys that an executor has.
 pub(crate) fn report_of<L: Ledger>(
     alloc: Global,
-    world: &World<AgreeNode, ExecNode<Store>, FilterNode, ClientNode>,
+    world: &Cast,
     keys: &Hand,
     steps: &mut Steps<L>,
 ) -> Result<Bytes, Memory>

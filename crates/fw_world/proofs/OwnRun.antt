@@ -1,10 +1,11 @@
 -- The run of a deal's new nodes is the run of its deployment.
 use mathlib.Core.Path.{fun_ext}
-use Rattle.std.proofs.Common.{◌≡◌, ◌⊎◌, ℕ, ◌<◌, Bool, true, false, ◌&&◌, not, nat_eq, List, [], ◌∷◌, Option, Some, Ok, Err, slice_get, refl, sym, ap, ◌∙◌, subst, inl, inr}
+use Rattle.std.proofs.Common.{◌≡◌, ◌⊎◌, ℕ, ◌<◌, true, false, ◌&&◌, not, nat_eq, List, [], ◌∷◌, Option, Some, Ok, slice_get, refl, sym, ap, ◌∙◌, subst, inl, inr, IsTrue}
 use Rattle.std.specs.List.{list_all, list_any}
 use Rattle.std.proofs.lemmas.Bool.{and_parts, eqb-true}
 use Rattle.fw_base.specs.declared.params.Params.{Params}
 use Rattle.fw_base.specs.declared.seat.Seat.{Seat}
+use Rattle.fw_base.specs.Sizes.{accepted}
 use Rattle.fw_base.specs.declared.seat.Seat.TheVariants.{Exec, Client}
 use Rattle.fw_op.specs.declared.op.Op.{Op}
 use Rattle.fw_op.specs.declared.start.Start.{Start}
@@ -97,16 +98,18 @@ steps_of p d can same fit =
 pub are_played : {A E F C : Type 0} (a : A → PlainHand) (e : E → PlainHand) (f : F → PlainHand) (c : C → PlainHand) (deal : PlainDeal) (p : Plan) (d : PlainDirectory) (nodes : Nodes A E F C) (w : Staged A E F C) (seen : Seen A E F C) (keys : PlainHand)
     → deal ≡ deal_of p → IsDirectoryOf deal.origin d → w ≡ fresh d nodes p.steps
     → ((k : ℕ) → k < deal.origin.params.clients → hand_in c (slice_get nodes.clients k) ≡ Some (hand_of deal (Client k)))
-    → keys ≡ hand_of deal (Exec 0) → seen.failed ≡ false → seen.directory ≡ w.seen.directory → hands_in a e f c seen ≡ hands_in a e f c w.seen
-    → ArePlayed c (deployed (deal_of p) d) seen keys
-are_played {A} {E} {F} {C} a e f c deal p d nodes w seen keys is dealt new had key going directory hands = record {
-  going = going;
-  sizes = dealt.whole.sizes;
-  directory = directory ∙ ap (λ (x : Staged A E F C). x.seen.directory) new;
-  clients = λ k below.
-      ap (λ (h : Seat → Option PlainHand). h (Client k)) hands
-      ∙ ap (λ (x : Staged A E F C). hand_in c (slice_get x.seen.nodes.clients k)) new
-      ∙ had k (subst (λ (q : Params). k < q.clients) dealt.sizes below)
-      ∙ ap (λ (x : PlainDeal). Some (hand_of x (Client k))) is;
-  executor = key ∙ ap (λ (x : PlainDeal). hand_of x (Exec 0)) is;
-}
+    → keys ≡ hand_of (deal_of p) (Exec 0) → seen.failed ≡ false → seen.directory ≡ w.seen.directory → hands_in a e f c seen ≡ hands_in a e f c w.seen
+    → ArePlayed c (deployed (deal_of p) seen.directory) seen keys
+are_played {A} {E} {F} {C} a e f c deal p d nodes w seen keys is dealt new had key going directory hands =
+    let here : seen.directory ≡ d = directory ∙ ap (λ (x : Staged A E F C). x.seen.directory) new in
+    record {
+      going = going;
+      sizes = subst (λ (x : PlainDirectory). IsTrue (accepted x.params)) (sym here) dealt.whole.sizes;
+      directory = refl;
+      clients = λ k below.
+          ap (λ (h : Seat → Option PlainHand). h (Client k)) hands
+          ∙ ap (λ (x : Staged A E F C). hand_in c (slice_get x.seen.nodes.clients k)) new
+          ∙ had k (subst (λ (q : Params). k < q.clients) dealt.sizes (subst (λ (x : PlainDirectory). k < x.params.clients) here below))
+          ∙ ap (λ (x : PlainDeal). Some (hand_of x (Client k))) is;
+      executor = key;
+    }
