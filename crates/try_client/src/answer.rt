@@ -34,6 +34,9 @@ fn answered(
         "tick" => Ok(Some(player.tick()?)),
         "reply" => reply(player, Seat::Agree(0), words),
         "filter" => reply(player, Seat::Filter(0, 0), words),
+        "nothing" => Ok(Some(player.nothing()?)),
+        "bent" => bent(player, words),
+        "hear-agreed" => player.hear_agreed(),
         "agreed" => player.agreed_told(),
         "report" => player.report(),
         "accepted" => Ok(Some(player.accepted()?)),
@@ -50,6 +53,21 @@ fn submit(
 ) -> Result<Option<Bytes>, Memory> {
     match Op::from_words(alloc, 8, words)? {
         Some(op) => Ok(Some(player.submit(&op)?)),
+        None => Ok(None),
+    }
+}
+
+/// A number and a place.
+fn place(words: &mut Words<'_>) -> Option<(u32, u32)> {
+    let number = number_of(words.next()?, 1, 64)?;
+    let place = number_of(words.next()?, 0, 65535)?;
+    Some((number, place))
+}
+
+/// The reply of a number comes with one bit changed.
+fn bent(player: &mut Player, words: &mut Words<'_>) -> Result<Option<Bytes>, Memory> {
+    match place(words) {
+        Some((number, place)) => player.bent(number, place),
         None => Ok(None),
     }
 }

@@ -75,6 +75,15 @@ fn take<L: Ledger>(
     }
 }
 
+/// These bytes with the lowest bit of one of them changed.
+fn bent(alloc: Global, bytes: &[u8], place: usize) -> Result<Bytes, Memory> {
+    let mut out = Bytes::new(alloc);
+    for (k, byte) in bytes.iter().enumerate() {
+        out.push(if k == place { *byte ^ 1 } else { *byte })?;
+    }
+    Ok(out)
+}
+
 impl Player {
     /// A client that has asked nothing.
     pub fn new(alloc: Global) -> Result<Player, Memory> {
@@ -154,6 +163,39 @@ impl Player {
         };
         self.give(input, &mut text)?;
         Ok(Some(text))
+    }
+
+    /// These bytes come from agreement node 0: what it sends.
+    fn hear(&mut self, bytes: &[u8]) -> Result<Bytes, Memory> {
+        let mut text = said(self.alloc, "sent")?;
+        let input = Input::Frame {
+            from: Seat::Agree(0),
+            bytes,
+        };
+        self.give(input, &mut text)?;
+        Ok(text)
+    }
+
+    /// No bytes come.
+    pub fn nothing(&mut self) -> Result<Bytes, Memory> {
+        self.hear(&[])
+    }
+
+    /// The reply of a number comes with one bit changed.
+    pub fn bent(&mut self, number: u32, place: u32) -> Result<Option<Bytes>, Memory> {
+        let Some(bytes) = self.certificate(number)? else {
+            return Ok(None);
+        };
+        let bent = bent(self.alloc, bytes.items(), place as usize)?;
+        Ok(Some(self.hear(bent.items())?))
+    }
+
+    /// The agreed frame of the first of its requests comes, which isn't for a client.
+    pub fn hear_agreed(&mut self) -> Result<Option<Bytes>, Memory> {
+        let Some(bytes) = self.agreed()? else {
+            return Ok(None);
+        };
+        Ok(Some(self.hear(bytes.items())?))
     }
 
     /// The agreed frame of the first of its requests.
