@@ -1,6 +1,5 @@
 -- What a client keeps and sends after one more input of a history.
-use Rattle.std.proofs.Common.{◌≡◌, Bool, false, ◌∷◌, ap, sym, ◌∙◌}
-use Rattle.std.specs.Prelude.{Result, Ok, Err, OnOk, is_err}
+use Rattle.std.proofs.Common.{◌≡◌, Bool, ◌∷◌, ap, sym, ◌∙◌}
 use Rattle.fw_op.specs.declared.op.Op.{Op}
 use Rattle.fw_op.specs.declared.reply.Reply.{Reply}
 use Rattle.fw_trace.specs.Client as clients
@@ -13,8 +12,3 @@ stands_more sp old new asks h i step stands = sym (ap (λ r. r.0) step) ∙ ap (
 
 pub sent_more : (sp : Speech) (old new : clients.Client Op Reply) (asks : Bool) (h : History) (i : Taken) → clients.client_next sp old i ≡ after asks sp new → old ≡ kept (clients.client_role sp) h → sent_of asks sp new ≡ sends (clients.client_role sp) (i ∷ h)
 sent_more sp old new asks h i step stands = sym (ap (λ r. r.1) step) ∙ ap (λ k. (clients.client_next sp k i).1) stands
-
--- what holds with Ok, where there is no error
-pub ok_of : {T E : Type 0} (r : Result T E) (P : Type 0) → is_err r ≡ false → OnOk r P → P
-ok_of (Ok x) P fine p = p
-ok_of (Err y) P fine p = absurd (let no : ⊥ = cc in no)

@@ -1,17 +1,12 @@
 -- What a client sends: frames of some bytes and not too many, to agreement nodes of the deployment.
-use Rattle.std.proofs.Common.{◌≡◌, ℕ, ◌+◌, ◌≤◌, Bool, true, false, ◌&&◌, nat_eq, nat_lt, List, [], ◌∷◌, ◌++◌, length, map, All, Option, Some, None, subst, arith, inl, inr}
+use Rattle.std.proofs.Common.{◌≡◌, ℕ, Bool, true, false, ◌&&◌, nat_eq, nat_lt, List, [], ◌∷◌, map, Option, Some, None, subst, inl, inr}
 use Rattle.std.proofs.lemmas.Bool.{cases_Bool}
-use Rattle.std.proofs.lemmas.List.{length-append}
 use Rattle.std.proofs.lemmas.List.Elements.{All-nil}
 use Rattle.fw_list.specs.Lists.{numbers_from}
-use Rattle.fw_list.specs.Numbers.{u32}
-use Rattle.fw_list.specs.declared.limits.TheConstants.{LONGEST_FRAME}
 use Rattle.fw_base.specs.declared.seat.Seat.TheVariants as seats
-use Rattle.fw_base.specs.declared.slot.Slot.{Slot}
 use Rattle.fw_base.specs.declared.slot.Slot.TheVariants as slots
 use Rattle.fw_base.specs.Sizes.{agreements}
 use Rattle.fw_text.specs.Texts.{hash, Asked}
-use Rattle.fw_seal.specs.declared.types.BodyKey.{BodyKey}
 use Rattle.fw_seal.specs.declared.types.Direction.TheVariants as way
 use Rattle.fw_op.specs.declared.op.Op.{Op}
 use Rattle.fw_op.specs.declared.reply.Reply.{Reply}
@@ -21,44 +16,23 @@ use Rattle.fw_trace.specs.declared.Input.TheVariants.{Heard, Tick, Submitted}
 use Rattle.fw_trace.specs.Client as clients
 use Rattle.fw_trace.specs.Role.{kept, sends}
 use Rattle.fw_directory.specs.Directories.{PlainDirectory}
-use Rattle.fw_hand.specs.Hands.{PlainHand, key_in, values_in}
-use Rattle.fw_means.specs.Means.{value_of_bit, signed_by, sealed_by}
+use Rattle.fw_hand.specs.Hands.{PlainHand, key_in}
+use Rattle.fw_rules.specs.Deployed.{means_of, bodies_of}
+use Rattle.fw_rules.specs.Roles.{request_of}
 use Rattle.fw_node.specs.Histories.{Taken, History, Out, AreSendable}
 use Rattle.fw_client.specs.Kept.{Speech}
 use Rattle.fw_client.specs.Standing.{Asker, rule_of, speech, speech_of}
 use Rattle.fw_node.proofs.Sendable.{to_all, agreements_fit}
-use Rattle.fw_means.proofs.Lengths.{length-four, sealed-most, value-most, pieces-most}
+use Rattle.fw_lengths.specs.Lengths.{HasFrameLength}
+use Rattle.fw_lengths.proofs.Pieces.{asks-long}
+use Rattle.fw_lengths.proofs.Signed.{signed-most, sealed_by-most}
 
 -- ---- how long a request is
 
-bit-most : (values : Option (List ℕ)) (digest : List ℕ) (b : ℕ) → length (value_of_bit values digest b) ≤ 32
-bit-most None digest b = omega arith
-bit-most (Some values) digest b = value-most values _
-
-signed-most : (hand : PlainHand) (slot : Slot) (digest : List ℕ) → length (signed_by hand slot digest) ≤ 8192
-unfolding signed_by
-signed-most hand slot digest = pieces-most (value_of_bit (values_in hand.held slot) digest) (bit-most (values_in hand.held slot) digest) 0 256
-
-body-most : (key : Option BodyKey) (client stamp : ℕ) (text : List ℕ) → length (sealed_by key way.Request client stamp text) ≤ 544
-body-most None client stamp text = omega arith
-body-most (Some key) client stamp text = sealed-most key way.Request client stamp text
-
-joined-most : (a b body sig : List ℕ) → length a ≡ 4 → length b ≡ 4 → length body ≤ 544 → length sig ≤ 8192 → length (a ++ b ++ body ++ sig) ≤ 9000
-joined-most a b body sig one two three four =
-    let x = length-append (a ++ b ++ body) sig in
-    let y = length-append (a ++ b) body in
-    let z = length-append a b in
-    omega arith
-
-request-most : (c : ℕ) (hand : PlainHand) (d : PlainDirectory) (stamp : ℕ) (op : Op) → length ((speech_of c hand d).request stamp op) ≤ LONGEST_FRAME
-request-most c hand d stamp op =
-    let body = sealed_by (key_in hand.keys c) way.Request c stamp (op_bytes op) in
-    let sig = signed_by hand (slots.Request c stamp) (hash (Asked c stamp body)) in
-    let most = joined-most (u32 c) (u32 stamp) body sig (length-four c) (length-four stamp) (body-most (key_in hand.keys c) c stamp (op_bytes op)) (signed-most hand (slots.Request c stamp) (hash (Asked c stamp body))) in
-    omega arith
-
-request-some : (c : ℕ) (hand : PlainHand) (d : PlainDirectory) (stamp : ℕ) (op : Op) → 1 ≤ length ((speech_of c hand d).request stamp op)
-request-some c hand d stamp op = omega arith
+request-long : (c : ℕ) (hand : PlainHand) (d : PlainDirectory) (stamp : ℕ) (op : Op) → HasFrameLength ((speech_of c hand d).request stamp op)
+request-long c hand d stamp op =
+    let r = request_of (means_of d hand) (bodies_of hand) c stamp op in
+    asks-long r (sealed_by-most (key_in hand.keys c) way.Request c stamp (op_bytes op), signed-most hand (slots.Request c stamp) (hash (Asked c stamp r.body)))
 
 -- ---- all that a client sends
 
@@ -102,5 +76,7 @@ all_sendable n d [] same = All-nil _
 all_sendable n d (i ∷ h) same =
     subst (λ p. AreSendable p (rule_of n d (i ∷ h))) same
     (next-all (AreSendable d.params) (speech n d) (All-nil _)
-    (λ stamp op. to_all d.params (map seats.Agree (numbers_from 0 (agreements d.params))) ((speech n d).request stamp op) (agreements_fit d.params) (request-some n.client n.hand d stamp op) (request-most n.client n.hand d stamp op))
+    (λ stamp op.
+    let long = request-long n.client n.hand d stamp op in
+    to_all d.params (map seats.Agree (numbers_from 0 (agreements d.params))) ((speech n d).request stamp op) (agreements_fit d.params) long.0 long.1)
     (kept (clients.client_role (speech n d)) h) i)

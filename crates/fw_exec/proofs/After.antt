@@ -1,6 +1,6 @@
 -- What an executor keeps and sends after one more input of a history.
-use Rattle.std.proofs.Common.{◌≡◌, ℕ, List, Option, false, ◌∷◌, ◌++◌, ap, subst, ◌∙◌}
-use Rattle.std.specs.Prelude.{Result, Ok, Err, OnOk, is_err}
+use Rattle.std.proofs.Common.{◌≡◌, ℕ, List, Option, ◌∷◌, ◌++◌, ap, subst, ◌∙◌}
+use Rattle.std.specs.Prelude.{Result, OnOk}
 use Rattle.fw_base.specs.declared.seat.Seat.{Seat}
 use Rattle.fw_frame.specs.View.{Entry}
 use Rattle.fw_trace.specs.declared.Input.TheVariants.{Heard}
@@ -14,11 +14,6 @@ stands_more sp old new h i step stands = step ∙ ap (λ x. (next sp x i).0) sta
 
 pub sent_more : (sp : Speech) (old : Keeps) (out new : Out) (h : History) (i : Taken) → new ≡ out ++ (next sp old i).1 → old ≡ kept (executors.executor_role sp) h → new ≡ out ++ sends (executors.executor_role sp) (i ∷ h)
 sent_more sp old out new h i sent stands = sent ∙ ap (λ x. out ++ (next sp x i).1) stands
-
--- what holds with Ok, where there is no error
-pub ok_of : {T E : Type 0} (r : Result T E) (P : Type 0) → is_err r ≡ false → OnOk r P → P
-ok_of (Ok x) P fine p = p
-ok_of (Err y) P fine p = absurd (let no : ⊥ = cc in no)
 
 -- ---- with Ok
 

@@ -1,22 +1,16 @@
 -- What a replica answers to an entry is what the rule steps to, and its share is the rule's.
-use Rattle.std.proofs.Common.{◌≡◌, ℕ, zero, suc, ◌+◌, ◌≤◌, true, false, nat_eq, nat_lt, nat_le, List, [], ◌∷◌, length, replicate, Option, Some, None, refl, sym, ap, ◌∙◌, subst, arith, IsTrue, inl, inr}
-use Rattle.std.specs.Prelude.{bytes_eq, Result, Ok, Err, OnOk, slice_index_or, slice_set, if◌then◌else◌}
+use Rattle.std.proofs.Common.{◌≡◌, ℕ, zero, suc, ◌+◌, ◌≤◌, true, false, nat_eq, nat_lt, nat_le, List, [], ◌∷◌, length, replicate, Some, None, refl, sym, ap, ◌∙◌, subst, arith, IsTrue, inl, inr}
+use Rattle.std.specs.Prelude.{Result, Ok, Err, OnOk, slice_index_or, slice_set, if◌then◌else◌}
 use Rattle.std.specs.List.{list_all}
 use Rattle.std.proofs.lemmas.Bool.{and_parts, and_from, or_right, leb-true, eqb-true, cases_Bool}
 use Rattle.fw_base.specs.declared.params.Params.{Params}
 use Rattle.fw_base.specs.declared.slot.Slot.TheVariants as slots
 use Rattle.fw_text.specs.Texts.{hash, Answered}
-use Rattle.fw_op.specs.declared.op.Op.{Op}
-use Rattle.fw_op.specs.declared.op.Op.TheVariants as ops
 use Rattle.fw_op.specs.declared.reply.Reply.{Reply}
 use Rattle.fw_op.specs.declared.reply.Reply.TheVariants as replies
-use Rattle.fw_op.specs.declared.start.Start.{Start}
 use Rattle.fw_op.specs.Replies.{has_bytes}
 use Rattle.fw_seal.specs.declared.types.BodyKey.{BodyKey}
-use Rattle.fw_op.specs.declared.reply.Name.{Name}
-use Rattle.fw_store.specs.Store.{may_see, value_seen, record_of, added, unread, changed, with_value, with_reader, without_reader, without, own, swapped, applied}
 use Rattle.fw_frame.specs.Frames as frames
-use Rattle.fw_frame.specs.Frames.{PlainRequest, PlainEntry}
 use Rattle.fw_frame.specs.View.{Request, Entry, null_body, plain_request_of, plain_entry_of, is_single_entry}
 use Rattle.fw_frame.specs.Spelling.{frame_bytes}
 use Rattle.fw_directory.specs.Directories.{PlainDirectory}
@@ -32,47 +26,12 @@ use Rattle.fw_list.specs.declared.limits.TheConstants.{BODY_LEN}
 use Rattle.fw_ref.specs.Ranges.{AreAskedBy, IsAskedBy}
 use Rattle.fw_ref.proofs.Growing.{few-step}
 use Rattle.fw_ref.proofs.Listing.{asked}
+use Rattle.fw_lengths.proofs.Said.{said-answered}
 use Rattle.fw_exec.specs.Kept.{is_sealable, IsEntryAt, IsReached}
 use Rattle.fw_exec.specs.Standing.{speech_of}
 use Rattle.fw_exec.specs.Executors.{AreKeysOf}
 
--- ---- each reply to a request has bytes
-
-said-own : (o : Option Start) (a d : Reply × List Start) → has_bytes a.0 ≡ true → has_bytes d.0 ≡ true → has_bytes (own o a d).0 ≡ true
-said-own None a d absent present = absent
-said-own (Some r) a d absent present = present
-
-said-swapped : (o : Option Start) (old : List ℕ) (a d c : Reply × List Start) → has_bytes a.0 ≡ true → has_bytes d.0 ≡ true → has_bytes c.0 ≡ true → has_bytes (swapped o old a d c).0 ≡ true
-said-swapped None old a d c absent differs done = absent
-said-swapped (Some r) old a d c absent differs done = elim (bytes_eq r.value old) as (λ t. has_bytes (if t then c else d).0 ≡ true) [ true ↦ done | false ↦ differs ]
-
-said-seen : (x : ℕ) (o : Option Start) → has_bytes (value_seen x o) ≡ true
-said-seen x None = refl
-said-seen x (Some r) = elim (may_see x r) as (λ t. has_bytes (if t then replies.Value r.value else replies.Absent) ≡ true) [ true ↦ refl | false ↦ refl ]
-
-said-applied : (x : ℕ) (op : Op) (rs : List Start) → has_bytes (applied x op rs).0 ≡ true
-said-applied x (ops.Put key value) rs =
-    let n : Name = record { owner = x; key = key } in
-    said-own (record_of n rs) (replies.Done, added (unread n value) rs) (replies.Done, changed (with_value value) n rs) refl refl
-said-applied x (ops.Get owner key) rs = said-seen x (record_of (record { owner = owner; key = key }) rs)
-said-applied x (ops.Del key) rs =
-    let n : Name = record { owner = x; key = key } in
-    said-own (record_of n rs) (replies.Absent, rs) (replies.Done, without n rs) refl refl
-said-applied x (ops.Cas key old new) rs =
-    let n : Name = record { owner = x; key = key } in
-    said-swapped (record_of n rs) old (replies.Absent, rs) (replies.Differs, rs) (replies.Done, changed (with_value new) n rs) refl refl refl
-said-applied x (ops.Grant key client) rs =
-    let n : Name = record { owner = x; key = key } in
-    said-own (record_of n rs) (replies.Absent, rs) (replies.Done, changed (with_reader client) n rs) refl refl
-said-applied x (ops.Revoke key client) rs =
-    let n : Name = record { owner = x; key = key } in
-    said-own (record_of n rs) (replies.Absent, rs) (replies.Done, changed (without_reader client) n rs) refl refl
-said-applied x ops.Count rs = refl
-said-applied x ops.Keys rs = refl
-
-said-answered : (x : ℕ) (op : Option Op) (rs : List Start) → has_bytes (answered x op rs).0 ≡ true
-said-answered x None rs = refl
-said-answered x (Some op) rs = said-applied x op rs
+-- ---- each reply that is kept has bytes
 
 sealable-at : (last : List Last) (k : ℕ) → list_all is_sealable last ≡ true → is_sealable (slice_index_or last k unasked) ≡ true
 sealable-at [] k all = refl

@@ -5,7 +5,6 @@ pub mod Others
 pub mod Answering
 pub mod Turns
 pub mod Executing
-pub mod FrameLengths
 pub mod Admitted
 pub mod Sendable
 pub mod After

@@ -1,16 +1,13 @@
 //! What an executor keeps by number, looked up.
 
-ghost use Rattle.std.specs.Prelude.{◌≡◌, ◌&&◌, Some, nat_eq, nat_lt, reverse, OnOk};
+ghost use Rattle.std.specs.Prelude.{◌≡◌, nat_eq, nat_lt, reverse, OnOk};
 ghost use Rattle.std.specs.List.{find, list_any};
 ghost use Rattle.std.specs.Option.{option_copied, option_map};
-ghost use Rattle.fw_base.specs.Seats.{seat_eq};
 ghost use Rattle.fw_frame.specs.Plain.{plain_entry};
 ghost use Rattle.fw_frame.specs.View.{viewed_entry};
-ghost use Rattle.fw_trace.specs.Lists.{first_at};
 ghost use Rattle.fw_trace.specs.Executor as executors;
 
 use crate::entries::OwnEntry;
-use fw_base::Seat;
 use fw_frame::Entry;
 use fw_list::{Bytes, Memory, Newest};
 use std::alloc::Global;
@@ -94,49 +91,4 @@ pub(crate) fn keeps_above(kept: &Agreements, number: u32) -> bool
     ensures { result ≡ executors.keeps_above kept.now number }
 {
     is_any_above(kept.oldest_first(), number)
-}
-
-/// The last share of a number.
-fn last_share(shares: &[(u32, Bytes)], number: u32) -> Option<&(u32, Bytes)>
-    ensures { option_copied result ≡ find (λ share. nat_eq share.0 number) (reverse shares.now) }
-{
-    shares.iter().rev().find(|share| share.0 == number)
-}
-
-/// Its bytes.
-fn last_bytes(shares: &[(u32, Bytes)], number: u32) -> Option<&Bytes>
-    ensures { option_copied result ≡ option_map (λ share. share.1) (find (λ share. nat_eq share.0 number) (reverse shares.now)) }
-{
-    match last_share(shares, number) {
-        Some(share) => Some(&share.1),
-        None => None,
-    }
-}
-
-/// The share of a number.
-pub(crate) fn share_at(shares: &Shares, number: u32) -> Option<&Bytes>
-    ensures { option_copied result ≡ first_at (λ share. Some share) shares.now number }
-{
-    last_bytes(shares.oldest_first(), number)
-}
-
-/// Whether this is a frame of a number from this seat.
-fn is_told(told: &(Seat, u32), seat: Seat, number: u32) -> bool
-    ensures { result ≡ (seat_eq told.now.0 seat && nat_eq told.now.1 number) }
-{
-    told.0.is(seat) && told.1 == number
-}
-
-/// Whether one of these is such a frame.
-fn is_any_told(told: &[(Seat, u32)], seat: Seat, number: u32) -> bool
-    ensures { result ≡ list_any (λ pair. seat_eq pair.0 seat && nat_eq pair.1 number) (reverse told.now) }
-{
-    told.iter().rev().any(|pair| is_told(pair, seat, number))
-}
-
-/// Whether a frame of this number came from this seat.
-pub(crate) fn was_told(told: &Newest<(Seat, u32)>, seat: Seat, number: u32) -> bool
-    ensures { result ≡ executors.sent_before told.now seat number }
-{
-    is_any_told(told.oldest_first(), seat, number)
 }

@@ -10,12 +10,13 @@ ghost use Rattle.fw_rules.specs.Roles.{is_filter};
 ghost use Rattle.fw_exec.specs.Kept.{IsEntryAt, IsRunning, next};
 ghost use Rattle.fw_exec.specs.Executors.{IsOwn, speech_by};
 
-use crate::kept::{Agreements, Shares, entry_at, frame_at, keep, keeps_above, share_at, was_told};
+use crate::kept::{Agreements, Shares, entry_at, frame_at, keep, keeps_above};
 use crate::own::{Own, execute, other_executors};
 use fw_base::Seat;
 use fw_directory::Directory;
 use fw_frame::{Entry, Frame};
 use fw_list::{Bytes, Memory, Newest};
+use fw_lookup::{bytes_at, was_sent};
 use fw_node::{Outbox, Sent, row_seats};
 use fw_ref::{Replica, Service};
 use std::alloc::Global;
@@ -128,10 +129,10 @@ impl<S: Service> Running<S> {
         if number > self.replica.done() {
             return Ok(None);
         }
-        if !was_told(&self.from, seat, number) {
+        if !was_sent(&self.from, seat, number) {
             return Ok(None);
         }
-        match share_at(&self.shares, number) {
+        match bytes_at(&self.shares, number) {
             None => Ok(None),
             Some(share) => Ok(Some(Bytes::copy_of(alloc, share.items())?)),
         }

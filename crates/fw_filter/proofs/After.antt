@@ -1,6 +1,5 @@
 -- What a filter keeps and sends after one more input of a history.
-use Rattle.std.proofs.Common.{◌≡◌, ℕ, false, ◌∷◌, ◌++◌, ap, sym, subst, ◌∙◌}
-use Rattle.std.specs.Prelude.{Result, Ok, Err, OnOk, is_err}
+use Rattle.std.proofs.Common.{◌≡◌, ℕ, ◌∷◌, ◌++◌, ap, sym, subst, ◌∙◌}
 use Rattle.fw_trace.specs.Filter as filters
 use Rattle.fw_trace.specs.Role.{kept, sends}
 use Rattle.fw_directory.specs.Directories.{PlainDirectory}
@@ -27,8 +26,3 @@ pub sent-more : (d : PlainDirectory) (hand : PlainHand) (r c : ℕ) (old new : K
     → Does new before after (next_of (speech_of r c hand d) old i) → after ≡ before ++ sends (filters.filter_role (speech_of r c hand d)) (i ∷ h)
 sent-more d hand r c old new h i before after stands does =
     does.1 ∙ ap (λ (x : Keeps). before ++ (next_of (speech_of r c hand d) x i).1) stands
-
--- what holds with Ok, where there is no error
-pub ok_of : {T E : Type 0} (r : Result T E) (P : Type 0) → is_err r ≡ false → OnOk r P → P
-ok_of (Ok x) P fine p = p
-ok_of (Err y) P fine p = absurd (let no : ⊥ = cc in no)

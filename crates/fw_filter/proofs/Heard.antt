@@ -1,19 +1,13 @@
 -- What a frame from a seat is.
-use Rattle.std.proofs.Common.{◌≡◌, ℕ, Bool, true, false, ◌&&◌, nat_eq, List, Option, Some, None, refl, sym, ap, ◌∙◌, IsTrue}
+use Rattle.std.proofs.Common.{◌≡◌, ℕ, Bool, true, false, nat_eq, List, Option, Some, None, refl, sym, ap, ◌∙◌}
 use Rattle.std.specs.Prelude.{option_and_then}
-use Rattle.std.proofs.lemmas.Bool.{and_parts, eq-eqb}
+use Rattle.std.proofs.lemmas.Bool.{eq-eqb}
 use Rattle.fw_base.specs.declared.params.Params.{Params}
 use Rattle.fw_base.specs.declared.seat.Seat.{Seat}
 use Rattle.fw_base.specs.declared.seat.Seat.TheVariants as seats
-use Rattle.fw_base.specs.Seats.{fits, linked}
-use Rattle.fw_frame.specs.Frames.{PlainFrame}
-use Rattle.fw_frame.specs.Ranges.{frame_fits}
-use Rattle.fw_frame.specs.Spelling.{frame_bytes}
-use Rattle.fw_frame.specs.View.{Frame, viewed}
-use Rattle.fw_frame.specs.Undoing.{frame_in}
-use Rattle.fw_frame.proofs.Undoing.{frame_in-only}
+use Rattle.fw_frame.specs.View.{Frame}
 use Rattle.fw_directory.specs.Directories.{PlainDirectory}
-use Rattle.fw_means.specs.Means.{when, is_valid, if_valid, valid_in, admitted_by}
+use Rattle.fw_means.specs.Means.{when, admitted_by}
 use Rattle.fw_base.specs.Seats.{above}
 use Rattle.fw_trace.specs.declared.Input.TheVariants.{Heard}
 use Rattle.fw_trace.specs.Filter as filters
@@ -22,40 +16,14 @@ use Rattle.fw_frame.specs.View as view
 use Rattle.fw_hand.specs.Hands.{PlainHand}
 use Rattle.fw_node.specs.Histories.{Out}
 use Rattle.fw_rules.specs.Roles.{agreed_number, replied_number, share_from}
+use Rattle.fw_lengths.proofs.Admitted.{admitted-shows}
 use Rattle.fw_share.specs.Shares.{IsSeen, share_in}
 use Rattle.fw_filter.specs.Sifting.{Keeps, Speech, SpeaksIn, Does, does_with}
 use Rattle.fw_filter.specs.Standing.{next_of, speech_of}
 
--- a frame of the deployment, with these bytes, from one of its seats
-pub record IsFrom (p : Params) (from : Seat) (bytes : List ℕ) (v : Frame) (f : PlainFrame) : Type 0 where
-  pub spelled : bytes ≡ frame_bytes f
-  pub ranges : IsTrue (frame_fits p f)
-  pub seen : viewed f ≡ v
-  pub seat : IsTrue (fits p from)
-
-pub when-some : {A : Type 0} (b : Bool) (o : Option A) (x : A) → when b o ≡ Some x → (b ≡ true) × (o ≡ Some x)
-when-some true o x e = (refl, e)
-when-some false o x e = absurd (let no : ⊥ = cc in no)
-
-some-same : {A : Type 0} (x y : A) → ◌≡◌ {A = Option A} (Some x) (Some y) → x ≡ y
-some-same x y e = cc
-
-valid-is : (d : PlainDirectory) (from : Seat) (bytes : List ℕ) (v : Frame) → IsTrue (fits d.params from) → (o : Option PlainFrame) → frame_in d.params bytes ≡ o → option_and_then (if_valid d) o ≡ Some v → (f : PlainFrame) × IsFrom d.params from bytes v f
-valid-is d from bytes v seat None is e = absurd (let no : ⊥ = cc in no)
-valid-is d from bytes v seat (Some f) is e =
-    let found = when-some (is_valid d f) (Some (viewed f)) v e in
-    let only = frame_in-only d.params bytes f is in
-    (f, record { spelled = only.spelled; ranges = only.fits; seen = some-same (viewed f) v found.1; seat = seat })
-
-pub admitted-is : (d : PlainDirectory) (own from : Seat) (bytes : List ℕ) (v : Frame) → admitted_by d own from bytes ≡ Some v → (f : PlainFrame) × IsFrom d.params from bytes v f
-admitted-is d own from bytes v e =
-    let found = when-some (fits d.params from && linked d.params from own) (valid_in d bytes) v e in
-    let both = and_parts (fits d.params from) (linked d.params from own) found.0 in
-    valid-is d from bytes v both.0 (frame_in d.params bytes) refl found.1
-
 -- it is seen as one of the deployment
 pub admitted-seen : (d : PlainDirectory) (own from : Seat) (bytes : List ℕ) (v : Frame) → admitted_by d own from bytes ≡ Some v → IsSeen d.params v
-admitted-seen d own from bytes v e = let is = admitted-is d own from bytes v e in (is.0, is.1.ranges, is.1.seen)
+admitted-seen d own from bytes v e = let shown = (admitted-shows d own from bytes v e).1 in (shown.frame, shown.fits, shown.seen)
 
 -- ---- what a filter does with it
 

@@ -11,9 +11,10 @@ ghost use Rattle.fw_rules.specs.Roles.{ups, downs};
 ghost use Rattle.fw_share.specs.Shares.{IsSeen, share_in};
 ghost use Rattle.fw_filter.specs.Sifting.{Speech, SpeaksIn, IsReady, Does};
 
-use crate::lookup::{asked_by, held_of, was_asked};
+use crate::lookup::{held_of, was_asked};
 use fw_base::{Params, Seat, Seats};
 use fw_list::{Bytes, Memory, Newest};
+use fw_lookup::was_sent;
 use fw_node::{Outbox, agreement_seats, executor_seats, row_seats};
 use fw_share::Combiner;
 use fw_valid::Checked;
@@ -93,7 +94,7 @@ impl Sieve {
     fn goes_up(&self, from: Seat, number: u32) -> bool
         ensures { result ≡ (not (filters.asked_at_all self.now.keeps.asked number) || sent_before self.now.keeps.asked from number) }
     {
-        !was_asked(&self.asked, number) || asked_by(&self.asked, from, number)
+        !was_asked(&self.asked, number) || was_sent(&self.asked, from, number)
     }
 
     /// Hears an agreed frame from below: it is answered with the reply that is held, or goes up. After want of memory the outbox is

@@ -29,6 +29,7 @@ use Rattle.fw_directory.specs.Directories.{PlainDirectory}
 use Rattle.fw_valid.specs.Validity.{IsValidFrame}
 use Rattle.fw_means.specs.Means.{when, is_valid}
 use Rattle.fw_means.proofs.Admitting.{frame_decided}
+use Rattle.fw_lengths.proofs.Options.{when-some}
 use Rattle.fw_rules.specs.World.{agreed_frame, agreed_in}
 use Rattle.fw_hand.specs.Hands.{PlainHand}
 use Rattle.fw_report.specs.declared.summary.AgreedLine.{AgreedLine}
@@ -172,10 +173,6 @@ frame_in_list p sizes (frames.Agreed view number entry signers) fit found is =
     let least : number ≤ p.numbers = leb-true number p.numbers (and_parts (nat_le 1 number) (nat_le number p.numbers) two.1).1 in
     subst (InList p) (same_Some (number, viewed_entry entry) found is) (least, entry_opens p sizes entry three.1)
 
-when_some : {A : Type 0} (b : Bool) (o : Option A) (x : A) → when b o ≡ Some x → o ≡ Some x
-when_some true o x e = e
-when_some false o x e = absurd (let no : ⊥ = cc in no)
-
 in_list : (d : PlainDirectory) → IsTrue (accepted d.params) → (bytes : List ℕ) (found : ℕ × Entry) → agreed_in d bytes ≡ Some found → InList d.params found
 in_list d sizes bytes found tells = by (frame_in d.params bytes) refl
   where
@@ -183,7 +180,7 @@ in_list d sizes bytes found tells = by (frame_in d.params bytes) refl
     by None e = absurd (let no : None ≡ Some found = sym (none_read d bytes e) ∙ tells in none-some found no)
     by (Some f) e =
         frame_in_list d.params sizes f (frame_in-only d.params bytes f e).fits found
-        (when_some (is_valid d f) (agreed_frame (viewed f)) found (sym (read_is d bytes f e) ∙ tells))
+        (when-some (is_valid d f) (agreed_frame (viewed f)) found (sym (read_is d bytes f e) ∙ tells)).1
 
 -- ---- the first of each number
 

@@ -18,10 +18,9 @@ use Rattle.fw_rules.specs.Choices.{admitted}
 use Rattle.fw_rules.specs.Deployed.{means_of}
 use Rattle.fw_rules.specs.Agree.{Node, Self, Step, numbers, offers_choice, offers_request, prepares, pledges, commits, goes_up, makes_offers, casts_votes, commits_and_sends, passes, hears, passes_after, agree_next, agree_role}
 use Rattle.fw_sendable.specs.Rule.{agree_rule}
-use Rattle.fw_sendable.proofs.Pieces.{IsShortRequest}
-use Rattle.fw_sendable.proofs.Options.{all_any}
-use Rattle.fw_sendable.proofs.Short.{when-some}
-use Rattle.fw_sendable.proofs.Signed.{IsShortMeans, deployed-short}
+use Rattle.fw_lengths.proofs.Pieces.{IsShortRequest}
+use Rattle.fw_lengths.proofs.Options.{all_any, when-some}
+use Rattle.fw_lengths.proofs.Signed.{IsShortMeans, deployed-short}
 use Rattle.fw_sendable.proofs.Fitting.{Fitting, offers_choice-fit, offers_request-fit, prepares-fit, pledges-fit, commits-fit, goes_up-fit}
 use Rattle.fw_sendable.proofs.Stepping.{FitStep, for_each-fit, hears-fit, start-fit}
 

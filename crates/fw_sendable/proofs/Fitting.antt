@@ -11,8 +11,8 @@ use Rattle.fw_frame.specs.View.{Request, Entry, Signer, Proof, Propose, Vote, Ag
 use Rattle.fw_rules.specs.Signing.{entry_digest}
 use Rattle.fw_rules.specs.Agree.{Node, Self, Cast, Adopted, Act, Offer, Prepare, Pledge_to, Commit, Up, nodes, numbers, reply_if, reply_at, reply_to, signer_if, signer_of, signers_of, enough, vote_quorum, cast_if, cast_at, agreed_at, last_changes, chosen, all_proofs, better, best, proofs_of, entry_or_null, choice, offers_choice, offers_request, next_number, prepares_one, prepares, pledge_of, pledges_cast, pledges, seen_if, seen_of, commit_with, commits_by, commits_in, commits, up_of, goes_up}
 use Rattle.fw_rules.specs.Choices.{first_some}
-use Rattle.fw_sendable.proofs.Pieces.{IsShortRequest, IsShortEntry, IsShortSigner, AreShortSigners, IsShortProof, IsShortChange, IsShort}
-use Rattle.fw_sendable.proofs.Options.{all_any, when-if, cond-if, first_some-if, first_at-if, found-all, flat-all}
+use Rattle.fw_lengths.proofs.Pieces.{IsShortRequest, IsShortEntry, IsShortSigner, AreShortSigners, IsShortProof, IsShortChange, IsShort}
+use Rattle.fw_lengths.proofs.Options.{all_any, when-if, cond-if, first_some-if, first_at-if, found-all, flat-all}
 
 abbrev pub IsShortPropose : Params → Propose → Type 0
 IsShortPropose p m = IsShort p (Proposes m)
@@ -81,7 +81,7 @@ cast-if p x f view n =
     first_some-if (cast_if view n) IsShortCast IsShortEntry (λ c short. when-if IsShortEntry _ (Some c.entry) short) x.own.casts f.casts
 
 agreed-if : (p : Params) (x : Node) → Fitting p x → (n : ℕ) → IfSome (agreed_at x n) (IsShortAgreed p)
-agreed-if p x f n = first_at-if (λ a. a.number) (IsShortAgreed p) n x.committed f.committed
+agreed-if p x f n = first_at-if (λ (a : Agreed). (a.number, a)) (IsShortAgreed p) (IsShortAgreed p) (λ a short. short) n x.committed f.committed
 
 -- ---- the choice
 

@@ -17,10 +17,10 @@ use Rattle.fw_node.specs.Histories.{IsSendable, AreSendable}
 use Rattle.fw_node.proofs.Sendable.{to_one, both}
 use Rattle.fw_rules.specs.Signing.{entry_digest}
 use Rattle.fw_rules.specs.Agree.{Node, Self, Step, Act, Offer, Prepare, Pledge_to, Commit, Up, nodes, to_others, to_row0, reply_of, reply_to, own_vote, own_proposal, performs, acted, for_each, same_request, remembers_request, hears_request, hears_reply, primary_vote, hears_proposal, hears, new_node}
-use Rattle.fw_sendable.specs.Short.{HasFrameLength}
-use Rattle.fw_sendable.proofs.Pieces.{IsShortRequest, IsShortEntry, AreShortSigners, IsShortProof, IsShort, AreForClients, IsForClients}
-use Rattle.fw_sendable.proofs.Options.{all_below, all_more}
-use Rattle.fw_sendable.proofs.Signed.{IsShortMeans}
+use Rattle.fw_lengths.specs.Lengths.{HasFrameLength}
+use Rattle.fw_lengths.proofs.Pieces.{IsShortRequest, IsShortEntry, AreShortSigners, IsShortProof, IsShort, AreForClients, IsForClients}
+use Rattle.fw_lengths.proofs.Options.{all_below, all_more}
+use Rattle.fw_lengths.proofs.Signed.{IsShortMeans}
 use Rattle.fw_sendable.proofs.Fitting.{IsShortPropose, IsShortVote, IsShortAgreed, IsShortReply, IsShortCast, Fitting, FitAct, FitChoice, reply-if}
 
 -- what is kept is short, and what was sent can be sent

@@ -1,3 +1,2 @@
 -- The files of definitions.
-pub mod Short
 pub mod Rule

@@ -1,7 +1,7 @@
 -- The first reply of a number is made where the rule makes it.
 use Rattle.std.proofs.Common.{◌≡◌, ℕ, ◌+◌, ◌≤◌, ◌<◌, List, [], ◌∷◌, ◌++◌, Bool, true, false, ◌&&◌, ◌⊎◌, not, nat_eq, nat_le, length, Option, Some, None, refl, sym, ap, ap₂, ◌∙◌, arith, inl, inr}
 use Rattle.std.specs.Prelude.{IfSome, bytes_eq, filter}
-use Rattle.std.proofs.lemmas.Bool.{cases_Bool, and_parts, eq-eqb, eqb-true, eqb-false, le-leb}
+use Rattle.std.proofs.lemmas.Bool.{cases_Bool, and_parts, eq-eqb, eqb-true, eqb-false, leb-false, le-leb, lt-leb}
 use Rattle.std.proofs.lemmas.List.{length-append, append-nil}
 use Rattle.std.proofs.lemmas.List.Elements.{filter-append}
 use Rattle.std.proofs.lemmas.Slice.Eq.{bytes_eq-Decides}
@@ -78,12 +78,6 @@ when-same false true many least x e f same = ap (λ b. when b x) (sym same)
 when-same true number many least x e f same = absurd (let no : ⊥ = cc in no)
 when-same false false many least x e f same = absurd (let no : ⊥ = cc in no)
 
-leb-false : (a b : ℕ) → nat_le a b ≡ false → b < a
-leb-false a b fails = grind arith
-
-not-leb : (a b : ℕ) → b < a → nat_le a b ≡ false
-not-leb a b less = grind arith
-
 some-none : {A : Type 0} (b : Bool) (x : A) → when b (Some x) ≡ None → b ≡ false
 some-none false x e = refl
 some-none true x e = absurd (let no : ⊥ = cc in no)
@@ -150,7 +144,7 @@ few k kept s each = elim (few-in k kept s kept each) [
 tests-agree : (m n : ℕ) → m ≤ n → nat_le n m ≡ nat_eq m n
 tests-agree m n most = elim (cases_Bool (nat_eq m n)) [
   | inl same ↦ let e = eqb-true m n same in le-leb n m (omega arith) ∙ sym same
-  | inr other ↦ let apart = eqb-false m n other in not-leb n m (omega arith) ∙ sym other
+  | inr other ↦ let apart = eqb-false m n other in lt-leb n m (omega arith) ∙ sym other
 ]
 
 -- ---- the first reply

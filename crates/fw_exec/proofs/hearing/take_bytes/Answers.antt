@@ -8,7 +8,7 @@ use Rattle.fw_means.specs.Means.{admitted_by}
 use Rattle.fw_rules.specs.Roles.{agreed_frame, want_frame}
 use Rattle.fw_exec.specs.Kept.{IsKeepable}
 use Rattle.fw_exec.specs.Executors.{speech_by}
-use Rattle.fw_exec.proofs.Admitted.{heard}
+use Rattle.fw_exec.proofs.Admitted.{admitted_keepable}
 use Rattle.fw_exec.proofs.After.{heard_sends}
 use Rattle.fw_exec.proofs.hearing.take_bytes.Goals as goal
 
@@ -16,8 +16,8 @@ pub take_frame-requires-clause-frame : goal.take_frame-requires-clause-frame
 take_frame-requires-clause-frame g c =
     let d = c.args.directory.now in
     let found : Some (viewed (plain c.in-Some.checked)) ≡ admitted_by d (seats.Exec c.args.own.now.exec) c.args.from c.args.bytes.now = rw c.in-Some.is at c.in_ok-checked.ensures in
-    let hears = heard d (seats.Exec c.args.own.now.exec) c.args.from c.args.bytes.now (viewed (plain c.in-Some.checked)) (rw c.requires.sizes c.requires.own.executors.sizes) (sym found) in
-    rw c.frame.ensures (subst (λ p. IsKeepable p (viewed (plain c.in-Some.checked))) c.requires.sizes hears.entry)
+    let keepable = admitted_keepable d (seats.Exec c.args.own.now.exec) c.args.from c.args.bytes.now (viewed (plain c.in-Some.checked)) (sym found) in
+    rw c.frame.ensures (subst (λ p. IsKeepable p (viewed (plain c.in-Some.checked))) c.requires.sizes keepable)
 
 pub returns-clause-sent : goal.returns-clause-sent
 returns-clause-sent g c =

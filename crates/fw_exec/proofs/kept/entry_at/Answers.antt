@@ -4,7 +4,7 @@ use Rattle.std.specs.List.{find}
 use Rattle.std.specs.Option.{option_map}
 use Rattle.std.proofs.lemmas.List.{reverse-reverse}
 use Rattle.fw_frame.specs.View.{Entry}
-use Rattle.fw_exec.proofs.Keyed.{find_first}
+use Rattle.fw_lookup.proofs.Looking.{find_first}
 use Rattle.fw_exec.proofs.kept.entry_at.Goals as goal
 
 pub returns : goal.returns

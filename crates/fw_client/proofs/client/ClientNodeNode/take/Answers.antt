@@ -3,7 +3,8 @@ use Rattle.std.proofs.Common.{◌≡◌, ◌++◌, ap, sym, subst, ◌∙◌}
 use Rattle.fw_node.specs.Histories.{taken}
 use Rattle.fw_client.specs.Standing.{StandsFor, rule_of, speech_of}
 use Rattle.fw_client.proofs.Sendable.{all_sendable}
-use Rattle.fw_client.proofs.After.{stands_more, sent_more, ok_of}
+use Rattle.fw_lengths.proofs.Options.{ok_of}
+use Rattle.fw_client.proofs.After.{stands_more, sent_more}
 use Rattle.fw_client.proofs.client.ClientNodeNode.take.Goals as goal
 
 pub returns-then-self-clause-sends : goal.returns-then-self-clause-sends

@@ -5,7 +5,8 @@ use Rattle.fw_node.specs.Histories.{taken}
 use Rattle.fw_exec.specs.Executors.{speech_by}
 use Rattle.fw_exec.specs.Standing.{StandsFor, rule_of}
 use Rattle.fw_exec.proofs.Sendable.{all_sendable}
-use Rattle.fw_exec.proofs.After.{stands_more, sent_more, ok_of}
+use Rattle.fw_lengths.proofs.Options.{ok_of}
+use Rattle.fw_exec.proofs.After.{stands_more, sent_more}
 use Rattle.fw_exec.proofs.node.ExecNodeNode.take.Goals as goal
 
 pub returns-then-self-clause-sends : goal.returns-then-self-clause-sends

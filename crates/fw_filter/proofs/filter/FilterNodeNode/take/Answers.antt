@@ -4,7 +4,8 @@ use Rattle.fw_trace.specs.Filter as filters
 use Rattle.fw_trace.specs.Role.{sends}
 use Rattle.fw_node.specs.Histories.{taken}
 use Rattle.fw_filter.specs.Standing.{StandsFor, rule_of, speech_of}
-use Rattle.fw_filter.proofs.After.{stands-ready, stands-more, sent-more, ok_of}
+use Rattle.fw_lengths.proofs.Options.{ok_of}
+use Rattle.fw_filter.proofs.After.{stands-ready, stands-more, sent-more}
 use Rattle.fw_filter.proofs.Sendable.{all_sendable}
 use Rattle.fw_filter.proofs.filter.FilterNodeNode.take.Goals as goal
 

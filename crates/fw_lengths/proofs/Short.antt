@@ -1,6 +1,6 @@
--- Each frame of a deployment has short pieces, and so it can be sent, and so can bytes that were admitted as one.
-use Rattle.std.proofs.Common.{◌≡◌, ℕ, zero, suc, ◌≤◌, ◌<◌, Bool, true, false, ◌&&◌, nat_eq, nat_lt, nat_le, List, [], ◌∷◌, length, map, All, Option, Some, None, refl, sym, subst, arith, IsTrue, inl, inr}
-use Rattle.std.specs.Prelude.{◌||◌, option_and_then}
+-- Each frame of a deployment has short pieces, and so it can be sent.
+use Rattle.std.proofs.Common.{ℕ, zero, suc, ◌≤◌, ◌<◌, Bool, ◌&&◌, nat_eq, nat_lt, nat_le, List, [], ◌∷◌, length, map, All, Some, None, subst, arith, IsTrue, inl, inr}
+use Rattle.std.specs.Prelude.{◌||◌}
 use Rattle.std.specs.List.{list_all}
 use Rattle.std.proofs.lemmas.Bool.{and_parts, leb-true, ltb-true, lt-ltb, eqb-true}
 use Rattle.std.proofs.lemmas.List.{length-map}
@@ -8,22 +8,17 @@ use Rattle.std.proofs.lemmas.List.Elements.{All-nil, All-cons}
 use Rattle.fw_list.specs.declared.limits.TheConstants.{BODY_LEN, SIGNATURE_LEN}
 use Rattle.fw_list.specs.Numbers.{within, ascending}
 use Rattle.fw_base.specs.declared.params.Params.{Params}
-use Rattle.fw_base.specs.declared.seat.Seat.{Seat}
 use Rattle.fw_base.specs.Sizes.{accepted, agreements, executors, quorum}
-use Rattle.fw_base.specs.Seats.{fits, linked}
 use Rattle.fw_frame.specs.Frames.{PlainRequest, PlainEntry, PlainSigner, PlainProof, PlainChange, PlainFrame}
 use Rattle.fw_frame.specs.Frames as frames
 use Rattle.fw_frame.specs.Ranges.{has_length, asker_fits, body_fits, values_fit, view_fits, number_fits, request_fits, entry_fits, signer_fits, signers_fit, proof_fits, proofs_fit, change_fits, changes_fit, answer_fits, frame_fits}
 use Rattle.fw_frame.specs.Spelling.{frame_bytes}
-use Rattle.fw_frame.specs.Undoing.{frame_in}
-use Rattle.fw_frame.specs.View.{Frame, viewed_request, viewed_entry, viewed_signer, viewed_proof, viewed_change, viewed_answers, viewed}
+use Rattle.fw_frame.specs.View.{Given, viewed_request, viewed_entry, viewed_signer, viewed_proof, viewed_change, viewed_answers, viewed}
 use Rattle.fw_frame.proofs.Fields.{three, four, five}
-use Rattle.fw_frame.proofs.Undoing.{either, frame_in-only}
+use Rattle.fw_frame.proofs.Undoing.{either}
 use Rattle.fw_frame.proofs.View.{plain_of-viewed}
-use Rattle.fw_directory.specs.Directories.{PlainDirectory}
-use Rattle.fw_means.specs.Means.{when, is_valid, if_valid, valid_in, admitted_by}
-use Rattle.fw_sendable.specs.Short.{HasFrameLength}
-use Rattle.fw_sendable.proofs.Pieces.{IsShortRequest, IsShortEntry, IsShortSigner, AreShortSigners, IsShortProof, IsShortChange, IsShortGiven, IsShort, IsForClient, AreForClients, IsForClients, written-long}
+use Rattle.fw_lengths.specs.Lengths.{HasFrameLength}
+use Rattle.fw_lengths.proofs.Pieces.{IsShortRequest, IsShortEntry, IsShortSigner, AreShortSigners, IsShortProof, IsShortChange, IsShortGiven, IsShort, IsForClient, AreForClients, IsForClients, written-long}
 
 of_length : (n : ℕ) (bytes : List ℕ) → IsTrue (has_length n bytes) → length bytes ≤ n
 of_length n bytes h = let same = eqb-true (length bytes) n h in omega arith
@@ -76,11 +71,15 @@ new_view_short p view changes sig fit =
     let same = length-map changes viewed_change in
     (omega arith, all_seen viewed_change to_view (IsShortChange p) (λ c f. change_short p c (and_parts (nat_eq c.view view) (change_fits p c) f).1) changes k.1, of_length SIGNATURE_LEN sig h.3)
 
+-- what holds of an answer holds of all that are seen
+pub each-answer : (P : Given → Type 0) (client stamp : ℕ) (body : List ℕ) → P (record { client = client; stamp = stamp; body = body }) → All P (viewed_answers client stamp body)
+each-answer P client zero body one = All-nil P
+each-answer P client (suc n) body one = All-cons P (record { client = client; stamp = suc n; body = body }) [] one (All-nil P)
+
 answers_short : (p : Params) (client stamp : ℕ) (body : List ℕ) → IsTrue (answer_fits p client stamp body) → All IsShortGiven (viewed_answers client stamp body)
-answers_short p client zero body fit = All-nil IsShortGiven
-answers_short p client (suc n) body fit =
-    let h = and_parts (body_fits body) (asker_fits p client (suc n) || nat_eq client 0 && nat_eq (suc n) 0 && list_all (nat_eq 0) body) fit in
-    All-cons IsShortGiven _ [] (of_length BODY_LEN body h.0) (All-nil IsShortGiven)
+answers_short p client stamp body fit =
+    let h = and_parts (body_fits body) (asker_fits p client stamp || nat_eq client 0 && nat_eq stamp 0 && list_all (nat_eq 0) body) fit in
+    each-answer IsShortGiven client stamp body (of_length BODY_LEN body h.0)
 
 -- what is seen of a frame that fits
 pub viewed-short : (p : Params) (f : PlainFrame) → IsTrue (frame_fits p f) → IsShort p (viewed f)
@@ -141,48 +140,3 @@ viewed-clients p (frames.NewView view changes sig) fit = tt
 viewed-clients p (frames.Agreed view number entry signers) fit = tt
 viewed-clients p (frames.Share number exec client stamp body shares) fit = tt
 viewed-clients p (frames.Want number) fit = tt
-
--- ---- bytes that were admitted
-
-pub when-some : {A : Type 0} (b : Bool) (o : Option A) (x : A) → when b o ≡ Some x → IsTrue b × (o ≡ Some x)
-when-some true o x e = (refl, e)
-when-some false o x e = absurd (let no : ⊥ = cc in no)
-
--- what is seen of the frame that they are, and that they are its bytes
-pub record Shows (p : Params) (bytes : List ℕ) (v : Frame) : Type 0 where
-  pub frame : PlainFrame
-  pub seen : viewed frame ≡ v
-  pub spelled : bytes ≡ frame_bytes frame
-  pub fits : IsTrue (frame_fits p frame)
-
-some-shows : (d : PlainDirectory) (bytes : List ℕ) (o : Option PlainFrame) → frame_in d.params bytes ≡ o → (v : Frame) → option_and_then (if_valid d) o ≡ Some v → Shows d.params bytes v
-some-shows d bytes None is v e = absurd (let no : ⊥ = cc in no)
-some-shows d bytes (Some f) is v e =
-    let found = (when-some (is_valid d f) (Some (viewed f)) v e).1 in
-    let known = frame_in-only d.params bytes f is in
-    record { frame = f; seen = cc; spelled = known.spelled; fits = known.fits }
-
-pub valid-shows : (d : PlainDirectory) (bytes : List ℕ) (v : Frame) → valid_in d bytes ≡ Some v → Shows d.params bytes v
-valid-shows d bytes v e = some-shows d bytes (frame_in d.params bytes) refl v e
-
--- a valid frame has short pieces
-pub valid-short : (d : PlainDirectory) (bytes : List ℕ) (v : Frame) → valid_in d bytes ≡ Some v → IsShort d.params v
-valid-short d bytes v e =
-    let shown = valid-shows d bytes v e in
-    subst (IsShort d.params) shown.seen (viewed-short d.params shown.frame shown.fits)
-
--- and is for clients of the deployment, where it is a reply
-pub valid-clients : (d : PlainDirectory) (bytes : List ℕ) (v : Frame) → valid_in d bytes ≡ Some v → IsForClients d.params v
-valid-clients d bytes v e =
-    let shown = valid-shows d bytes v e in
-    subst (IsForClients d.params) shown.seen (viewed-clients d.params shown.frame shown.fits)
-
--- a frame that was admitted has short pieces
-pub admitted-pieces : (d : PlainDirectory) (own from : Seat) (bytes : List ℕ) (v : Frame) → admitted_by d own from bytes ≡ Some v → IsShort d.params v
-admitted-pieces d own from bytes v e = valid-short d bytes v (when-some (fits d.params from && linked d.params from own) (valid_in d bytes) v e).1
-
--- bytes that were admitted can be sent on
-pub admitted_short : (d : PlainDirectory) (own from : Seat) (bytes : List ℕ) (v : Frame) → IsTrue (accepted d.params) → admitted_by d own from bytes ≡ Some v → HasFrameLength bytes
-admitted_short d own from bytes v sizes e =
-    let shown = valid-shows d bytes v (when-some (fits d.params from && linked d.params from own) (valid_in d bytes) v e).1 in
-    subst HasFrameLength (sym shown.spelled) (frame_short d.params shown.frame sizes shown.fits)

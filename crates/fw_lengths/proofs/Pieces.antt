@@ -13,7 +13,7 @@ use Rattle.fw_frame.specs.Spelling.{request_bytes, entry_bytes, signer_bytes, si
 use Rattle.fw_frame.specs.View.{Request, Entry, Given, Signer, Proof, Change, NewView, Propose, Vote, Agreed, Share, Reply, Frame, Asks, Proposes, Votes, Changes, Begins, Agrees, Shares, Replies, Wants, plain_request_of, plain_entry_of, plain_signer_of, plain_proof_of, plain_change_of, null_body, first_given}
 use Rattle.fw_means.specs.Means.{written}
 use Rattle.fw_means.proofs.Lengths.{length-four}
-use Rattle.fw_sendable.specs.Short.{HasFrameLength}
+use Rattle.fw_lengths.specs.Lengths.{HasFrameLength}
 
 -- ---- pieces that are short enough
 
@@ -109,7 +109,7 @@ signer-most s short = numbered s.agree s.sig 8192 short
 quorum-few : (p : Params) → IsTrue (accepted p) → quorum p ≤ 7
 quorum-few p sizes = grind arith
 
-numbers-few : (p : Params) → IsTrue (accepted p) → p.numbers ≤ 64
+pub numbers-few : (p : Params) → IsTrue (accepted p) → p.numbers ≤ 64
 numbers-few p sizes = grind arith
 
 signers-most : (p : Params) → IsTrue (accepted p) → (signers : List Signer) → AreShortSigners p signers → length (signers_bytes (map plain_signer_of signers)) ≤ 57376
@@ -153,6 +153,9 @@ body-most (g ∷ gs) short = All-head IsShortGiven g gs short
 -- behind the kind
 kind : (n : ℕ) (fields : List ℕ) (most : ℕ) → length fields ≤ most → most < LONGEST_FRAME → HasFrameLength (n ∷ fields)
 kind n fields most within small = (omega arith, omega arith)
+
+pub asks-long : (r : Request) → IsShortRequest r → HasFrameLength (written (Asks r))
+asks-long r short = kind 1 _ 8744 (request-most r short) (omega arith)
 
 proposes-long : (m : Propose) → IsShortEntry m.entry → length m.sig ≤ SIGNATURE_LEN → HasFrameLength (written (Proposes m))
 proposes-long m entry sig =
@@ -204,9 +207,12 @@ replies-long r answers values =
     let g = first_given r.answers in
     kind 8 _ 8748 (answered g.client g.stamp (u32 r.number) g.body r.values 4 (number_most r.number) (body-most r.answers answers) values) (omega arith)
 
+pub wants-long : (number : ℕ) → HasFrameLength (written (Wants number))
+wants-long number = kind 9 _ 4 (number_most number) (omega arith)
+
 -- a frame of short pieces is written in so many bytes that it can be sent
 pub written-long : (p : Params) → IsTrue (accepted p) → (v : Frame) → IsShort p v → HasFrameLength (written v)
-written-long p sizes (Asks r) short = kind 1 _ 8744 (request-most r short) (omega arith)
+written-long p sizes (Asks r) short = asks-long r short
 written-long p sizes (Proposes m) short = proposes-long m short.0 short.1
 written-long p sizes (Votes v) short = votes-long v short.0 short.1
 written-long p sizes (Changes c) short = kind 4 _ 4240652 (change-most p sizes c short) (omega arith)
@@ -214,4 +220,4 @@ written-long p sizes (Begins n) short = begins-long p sizes n short
 written-long p sizes (Agrees a) short = agrees-long p sizes a short
 written-long p sizes (Shares s) short = shares-long s short.0 short.1
 written-long p sizes (Replies r) short = replies-long r short.0 short.1
-written-long p sizes (Wants number) short = kind 9 _ 4 (number_most number) (omega arith)
+written-long p sizes (Wants number) short = wants-long number
