@@ -9,16 +9,16 @@ use Rattle.fw_base.specs.declared.seat.Seat.{Seat}
 use Rattle.fw_base.specs.declared.seat.Seat.TheVariants.{Agree, Filter, Client}
 use Rattle.fw_trace.specs.declared.Input.{Input}
 use Rattle.fw_trace.specs.declared.Input.TheVariants.{Heard, Tick, Submitted}
-use Rattle.fw_trace.specs.Lists.{first_at}
+use Rattle.fw_trace.specs.Lists.{In, first_at}
 use Rattle.fw_trace.specs.Role.{kept, sends}
-use Rattle.fw_trace.proofs.Words.{In, In-append}
-use Rattle.fw_trace.proofs.Source.{Hears, AllHeard, EverSent}
+use Rattle.fw_trace.proofs.Words.{In-append}
+use Rattle.fw_source.specs.Sources.{Hears, AllHeard, EverSent}
 use Rattle.fw_frame.specs.View.{Entry, Given, Request, Signer, Agreed, Reply, Frame, Asks, Proposes, Votes, Agrees, Replies}
 use Rattle.fw_means.specs.Means.{when}
 use Rattle.fw_rules.specs.Choices.{first_some, admitted}
 use Rattle.fw_rules.specs.Agree.{Node, Self, Step, Sends, Act, Offer, Prepare, Pledge_to, Commit, Up, performs, acted, for_each, to_others, numbers, agreed_at, offers_choice, offers_request, prepares_one, prepares, pledge_of, pledges_cast, pledges, commit_with, commits_by, commits_in, commits, up_of, goes_up, vote_quorum, seen_of, cast_at, passes, reply_of, reply_if, reply_at, reply_to, same_request, hears_request, hears_reply, hears, passes_after, agree_next, agree_role}
-use Rattle.fw_law_honest.proofs.Listed.{first_at-in}
-use Rattle.fw_law_honest.proofs.Frames.{when-some}
+use Rattle.fw_source.proofs.Listed.{first_at-in}
+use Rattle.fw_lengths.proofs.Options.{when-some}
 
 -- ---- lists
 
@@ -237,7 +237,7 @@ module _ {M : Type 0} (me : Self M) (own : me.own ≡ 0) (one : me.means.params.
     reply_to-in x client stamp r e =
         let n = first_some-in (reply_at x client stamp) (numbers me) r e in
         let held = first_some-in (reply_if client stamp n.0) x.heard.held r n.2 in
-        let same : held.0 ≡ r = same_Some held.0 r (when-some _ (Some held.0) r held.2) in
+        let same : held.0 ≡ r = same_Some held.0 r ((when-some _ (Some held.0) r held.2).1) in
         subst (λ (y : Reply). In y x.heard.held) same held.1
 
     request-is : (x : Node) (from : Seat) (r : Request) (o : Option Reply) → ((y : Reply) → o ≡ Some y → In y x.heard.held) → HeldHeard x → Hearing x (hears_request me x from r o)
@@ -295,7 +295,7 @@ module _ {M : Type 0} (me : Self M) (own : me.own ≡ 0) (one : me.means.params.
       where
         by : (o : Option Frame) → admitted me.means (Agree me.own) from m ≡ o → MayHear x (option_and_then (hears me x from) o)
         by None e = tt
-        by (Some frame) e = hears-is x from m frame k (when-some _ (me.means.read m) frame e) h
+        by (Some frame) e = hears-is x from m frame k ((when-some _ (me.means.read m) frame e).1) h
     agree_next-is x Tick k h = record { grows = λ n a e. e; held = h; outs = λ o i. absurd i }
     agree_next-is x (Submitted op) k h = record { grows = λ n a e. e; held = h; outs = λ o i. absurd i }
 

@@ -1,5 +1,5 @@
 -- What is read of bytes that a frame was written as.
-use Rattle.std.proofs.Common.{ℕ, ◌^◌, ◌<◌, ◌≤◌, ◌≡◌, ◌≢◌, Bool, true, false, List, [], map, get_or, take, drop, Option, Some, None, refl, sym, ◌∙◌, ap, subst, arith, IsTrue}
+use Rattle.std.proofs.Common.{ℕ, ◌^◌, ◌<◌, ◌≤◌, ◌≡◌, ◌≢◌, List, [], map, get_or, take, drop, Option, Some, None, refl, sym, ◌∙◌, ap, subst, arith, IsTrue}
 use Rattle.std.specs.Prelude.{option_and_then}
 use Rattle.std.specs.Int.{w32, from_be_bytes}
 use Rattle.std.proofs.lemmas.Nat.{from_be_bytes-to_be_bytes_4}
@@ -17,12 +17,10 @@ use Rattle.fw_frame.proofs.Fields.{four}
 use Rattle.fw_frame.proofs.Undoing.{frame_in-only, frame_in-each}
 use Rattle.fw_frame.proofs.View.{plain_of-viewed}
 use Rattle.fw_directory.specs.Directories.{PlainDirectory}
-use Rattle.fw_means.specs.Means.{when, is_valid, if_valid, valid_in, written}
+use Rattle.fw_means.specs.Means.{is_valid, if_valid, valid_in, written}
 use Rattle.fw_rules.specs.World.{agreed_frame, agreed_in}
-
-pub when-some : {A : Type 0} (b : Bool) (o : Option A) (x : A) → when b o ≡ Some x → o ≡ Some x
-when-some true o x e = e
-when-some false o x e = absurd (none-some x e)
+use Rattle.fw_lengths.proofs.Options.{when-some}
+use Rattle.fw_lengths.proofs.Pieces.{numbers-few}
 
 -- the frame that bytes are, and what is seen of it
 pub record Reads (p : Params) (bytes : List ℕ) (v : Frame) : Type 0 where
@@ -38,7 +36,7 @@ valid_reads d bytes v e = by (frame_in d.params bytes) refl e
     by (Some f) q h = record {
       plain = f;
       is = frame_in-only d.params bytes f q;
-      seen = same_Some (viewed f) v (when-some (is_valid d f) (Some (viewed f)) v h);
+      seen = same_Some (viewed f) v (when-some (is_valid d f) (Some (viewed f)) v h).1;
     }
 
 -- ---- agreed frames
@@ -99,9 +97,6 @@ number_there : (view n : ℕ) (entry : PlainEntry) (signers : List PlainSigner) 
 unfolding number_in u32
 number_there view n entry signers small = from_be_bytes-to_be_bytes_4 n small
 
-numbers_few : (p : Params) → IsTrue (accepted p) → p.numbers ≤ 64
-numbers_few p sizes = grind arith
-
 number_fit : (p : Params) (n : ℕ) → IsTrue (number_fits p n) → n ≤ p.numbers
 number_fit p n fits = grind arith
 
@@ -112,7 +107,7 @@ agreed_fits p bytes n e a =
 
 pub same_number : (p : Params) (bytes : List ℕ) (n : ℕ) (e : Entry) (a : Agreed) → IsTrue (accepted p) → IsAgreed p bytes n e → a.number ≤ p.numbers → bytes ≡ written (Agrees a) → n ≡ a.number
 same_number p bytes n e a sizes is few same =
-    let most = numbers_few p sizes in
+    let most = numbers-few p sizes in
     let least = number_fit p n (agreed_fits p bytes n e is).0 in
     sym (number_there is.view n is.entry is.signers (omega arith)) ∙ ap number_in (sym is.is.spelled ∙ same)
     ∙ number_there a.view a.number (plain_entry_of a.entry) (map plain_signer_of a.signers) (omega arith)

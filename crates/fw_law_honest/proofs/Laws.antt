@@ -17,8 +17,8 @@ use Rattle.fw_trace.specs.Run.{Step, run, NoLies}
 use Rattle.fw_trace.specs.Role.{kept}
 use Rattle.fw_trace.specs.Client.{client_role}
 use Rattle.fw_trace.proofs.Words.{In-filter, In-reverse, Contains-In}
-use Rattle.fw_trace.proofs.Source.{Pooled}
-use Rattle.fw_trace.proofs.Reached.{run_without_lies}
+use Rattle.fw_source.specs.Sources.{Pooled}
+use Rattle.fw_source.proofs.Reached.{run_without_lies}
 use Rattle.fw_frame.specs.View.{Entry, plain_entry_of}
 use Rattle.fw_directory.specs.Directories.{PlainDirectory}
 use Rattle.fw_deal.specs.Deals.{PlainDeal, hand_of}

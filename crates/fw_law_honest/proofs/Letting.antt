@@ -13,8 +13,10 @@ use Rattle.fw_base.specs.Sizes.{accepted, executors, width}
 use Rattle.fw_trace.specs.declared.Share as shares
 use Rattle.fw_trace.specs.Filter.{has_share}
 use Rattle.fw_trace.specs.Run.{NoLies}
-use Rattle.fw_trace.proofs.Words.{In, In-filter}
-use Rattle.fw_trace.proofs.Source.{Pooled, AllPooled, sent_holds}
+use Rattle.fw_trace.specs.Lists.{In}
+use Rattle.fw_trace.proofs.Words.{In-filter}
+use Rattle.fw_source.specs.Sources.{Pooled, AllPooled}
+use Rattle.fw_source.proofs.Source.{sent_holds}
 use Rattle.fw_frame.specs.View.{Entry, Given, Share, Frame, Shares, Replies}
 use Rattle.fw_directory.specs.Directories.{PlainDirectory}
 use Rattle.fw_shamir.specs.Polynomial.{IsAbsent, AreDistinct}
@@ -28,10 +30,12 @@ use Rattle.fw_rules.specs.Deployed.{bodies_of}
 use Rattle.fw_rules.specs.World.{rule_at, rules, trace_after, agreed, agreed_frame, agreed_in}
 use Rattle.fw_law_honest.specs.Laws.{OneDecides, deployed}
 use Rattle.fw_law_honest.proofs.Within.{Known, SendsSuch, all_such}
-use Rattle.fw_law_honest.proofs.Listed.{EachFrom-weaken}
+use Rattle.fw_source.proofs.Listed.{EachFrom-weaken}
 use Rattle.fw_law_honest.proofs.Frames.{Reads, valid_reads, agreed_is, agreed_fits, agreed_seen, kind_in, share_kind}
-use Rattle.fw_law_honest.proofs.Executing.{ExecOut, executor_sends}
-use Rattle.fw_law_honest.proofs.Filtering.{or_false, false_or, AreApart, FilterOut, filter_sends}
+use Rattle.fw_law_exec.proofs.Telling.{ExecOut, executor_sends}
+use Rattle.fw_law_filter.specs.Heard.{AreApart}
+use Rattle.fw_law_filter.proofs.Holding.{or_false, false_or}
+use Rattle.fw_law_filter.proofs.Sending.{FilterOut, filter_sends}
 use Rattle.fw_law_honest.proofs.Agreeing.{In-map}
 use Rattle.fw_law_honest.proofs.Speaking.{agreed-heard, FromAbove, replied-heard, FromExec, shared-heard, Combines, combines}
 use Rattle.fw_law_honest.proofs.OneList.{Events, pool_of, inputs, means, AgreedIn, at_seat, heard, ever_sent, longer}

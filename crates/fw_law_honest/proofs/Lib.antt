@@ -1,10 +1,6 @@
 -- The files of lemmas.
 pub mod Within
-pub mod Listed
 pub mod Frames
-pub mod Executing
-pub mod Filtering
-pub mod Asking
 pub mod Agreeing
 pub mod Speaking
 pub mod OneList

@@ -9,12 +9,12 @@ use Rattle.fw_base.specs.Seats.{fits}
 use Rattle.fw_base.specs.Sizes.{accepted}
 use Rattle.fw_op.specs.declared.op.Op.{Op}
 use Rattle.fw_trace.specs.declared.Sent.{Sent}
-use Rattle.fw_trace.specs.Lists.{greatest_of}
+use Rattle.fw_trace.specs.Lists.{In, greatest_of}
 use Rattle.fw_trace.specs.Trace.{Event, history}
 use Rattle.fw_trace.specs.Run.{NoLies, entry_at}
 use Rattle.fw_trace.specs.Role.{kept}
-use Rattle.fw_trace.proofs.Words.{In}
-use Rattle.fw_trace.proofs.Source.{AllHeard, EverSent, Pooled, AllPooled, traced}
+use Rattle.fw_source.specs.Sources.{AllHeard, EverSent, Pooled, AllPooled}
+use Rattle.fw_source.proofs.Source.{traced_without_lies}
 use Rattle.fw_frame.specs.View.{Entry, Agreed, Agrees}
 use Rattle.fw_directory.specs.Directories.{PlainDirectory}
 use Rattle.fw_deal.specs.Deals.{PlainDeal, hand_of}
@@ -27,12 +27,12 @@ use Rattle.fw_rules.specs.Deployed.{means_of, bodies_of, rule_by}
 use Rattle.fw_rules.specs.World.{rule_at, rules, trace_after, agreed, agreed_in}
 use Rattle.fw_law_honest.specs.Laws.{OneDecides, deployed}
 use Rattle.fw_law_honest.proofs.Within.{Known, SendsSuch, all_such}
-use Rattle.fw_law_honest.proofs.Listed.{EachFrom, EachFrom-weaken, EachFrom-below, first_at-found, greatest_of-above, front_longer}
+use Rattle.fw_source.proofs.Listed.{EachFrom, EachFrom-weaken, EachFrom-below, first_at-found, greatest_of-above, front_longer}
 use Rattle.fw_law_honest.proofs.Frames.{agreed_is, same_number, kind_in, other_kind}
 use Rattle.fw_law_honest.proofs.Agreeing.{SentDown, AgreeOut, agree_sent}
-use Rattle.fw_law_honest.proofs.Executing.{ExecOut, executor_sends}
-use Rattle.fw_law_honest.proofs.Filtering.{FilterOut, filter_sends}
-use Rattle.fw_law_honest.proofs.Asking.{client_sends}
+use Rattle.fw_law_exec.proofs.Telling.{ExecOut, executor_sends}
+use Rattle.fw_law_filter.proofs.Sending.{FilterOut, filter_sends}
+use Rattle.fw_law_client.proofs.Asked.{client_sends}
 use Rattle.fw_law_honest.proofs.Speaking.{combines}
 
 abbrev pub Events : Type 0
@@ -93,10 +93,10 @@ first_node p i none fit = omega (arith, none, ltb-true i (3 * p.f + 1) fit)
 
 module _ (deal : PlainDeal) (d : PlainDirectory) (dealt : OneDecides deal d) (events : Events) (honest : NoLies events) where
   pub heard : (seat : Seat) → AllHeard (Pooled (pool_of deal d events) seat) (inputs deal d events seat)
-  heard = (traced (rules (deployed deal d)) events honest).heard
+  heard = (traced_without_lies (rules (deployed deal d)) events honest).heard
 
   pub ever_sent : (to from : Seat) (m : List ℕ) → Pooled (pool_of deal d events) to from m → EverSent (rule_at (deployed deal d) from) (inputs deal d events from) (to, m)
-  ever_sent to from m i = (traced (rules (deployed deal d)) events honest).sent (record { from = from; to = to; message = m }) i
+  ever_sent to from m i = (traced_without_lies (rules (deployed deal d)) events honest).sent (record { from = from; to = to; message = m }) i refl
 
   -- what an agreement node sent
   pub from_node : (i : ℕ) (to : Seat) (m : List ℕ) → i ≡ 0 → Pooled (pool_of deal d events) to (Agree i) m
@@ -148,8 +148,7 @@ module _ (deal : PlainDeal) (d : PlainDirectory) (dealt : OneDecides deal d) (ev
       (λ n kept m all apart made. (let made_of = combines (means deal d (Filter r c)) n kept m made in λ k e q. no_agreed m k 8 e (ap (λ (xs : List ℕ). kind_in xs) made_of.is) (λ z. omega (arith, z)) q))
       (Known (pool_of deal d events) FromCommitted (Filter r c)) (λ from m n k e. k.1) (λ from m n k e. k.1) (λ from m x k e. tt) h a o (at_seat deal d (Filter r c) h o s).1)
   sends_such (Client c) h a o s there =
-      let asks = client_sends (client_speech (means deal d (Client c)) (bodies_of (hand_of deal (Client c))) c) (λ t. Unit {0})
-      (Known (pool_of deal d events) FromCommitted (Client c)) (λ from m t k e. tt) h a o (at_seat deal d (Client c) h o s).1 in
+      let asks = client_sends (client_speech (means deal d (Client c)) (bodies_of (hand_of deal (Client c))) c) h o (at_seat deal d (Client c) h o s).1 in
       λ n e q. no_agreed o.1 n 1 e (ap (λ (xs : List ℕ). kind_in xs) asks.2) (λ k. omega (arith, k)) q
 
   committed : AllPooled FromCommitted (pool_of deal d events)

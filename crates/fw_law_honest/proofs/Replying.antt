@@ -1,6 +1,6 @@
 -- What the reference replies to entries of a deployment, one after another, and the answers and certificates that follow.
 use Rattle.std.proofs.Common.{ℕ, zero, suc, ◌+◌, ◌^◌, ◌<◌, ◌≤◌, ◌≡◌, Bool, true, false, cond, ◌||◌, nat_eq, nat_lt, nat_le, List, [], ◌∷◌, ◌++◌, map, length, get_or, replicate, Option, Some, None, refl, ◌∙◌, ap, arith, IsTrue, length-append}
-use Rattle.std.specs.Prelude.{slice_get, slice_index_or, IfSome, bytes_eq, if◌then◌else◌}
+use Rattle.std.specs.Prelude.{slice_get, slice_index_or, IfSome}
 use Rattle.std.specs.List.{list_all}
 use Rattle.std.proofs.lemmas.Bool.{and_parts, and_from, or_right, leb-true, ltb-true, eqb-true, eq-eqb}
 use Rattle.std.proofs.lemmas.Option.{none-some}
@@ -22,7 +22,6 @@ use Rattle.fw_op.specs.declared.start.Start.{Start}
 use Rattle.fw_op.specs.Ops.{op_fits}
 use Rattle.fw_op.specs.Replies.{reply_bytes, reply_fits, has_bytes}
 use Rattle.fw_op.proofs.Lengths.{short_reply}
-use Rattle.fw_store.specs.Store.{may_see, value_seen, record_of, own, swapped, applied}
 use Rattle.fw_record.specs.Records.{starts_fit}
 use Rattle.fw_secret.specs.Dealt.{Origin, body_key}
 use Rattle.fw_deal.proofs.Ranges.{mapped_at}
@@ -38,30 +37,9 @@ use Rattle.fw_ref.specs.Ranges.{is_stored, is_tellable}
 use Rattle.fw_ref.proofs.Kept.{kept}
 use Rattle.fw_ref.proofs.Fitting.{opened-fits, tellable-new, tellable-set}
 use Rattle.fw_ref.proofs.Growing.{few-step, can_start}
+use Rattle.fw_lengths.proofs.Said.{said-applied}
 
 -- ---- what is replied can be told
-
-said-own : (o : Option Start) (a d : Reply × List Start) → has_bytes a.0 ≡ true → has_bytes d.0 ≡ true → has_bytes (own o a d).0 ≡ true
-said-own None a d absent present = absent
-said-own (Some r) a d absent present = present
-
-said-swapped : (o : Option Start) (old : List ℕ) (a d c : Reply × List Start) → has_bytes a.0 ≡ true → has_bytes d.0 ≡ true → has_bytes c.0 ≡ true → has_bytes (swapped o old a d c).0 ≡ true
-said-swapped None old a d c absent differs done = absent
-said-swapped (Some r) old a d c absent differs done = elim (bytes_eq r.value old) as (λ t. has_bytes (if t then c else d).0 ≡ true) [ true ↦ done | false ↦ differs ]
-
-said-seen : (x : ℕ) (o : Option Start) → has_bytes (value_seen x o) ≡ true
-said-seen x None = refl
-said-seen x (Some r) = elim (may_see x r) as (λ t. has_bytes (if t then replies.Value r.value else replies.Absent) ≡ true) [ true ↦ refl | false ↦ refl ]
-
-said-applied : (x : ℕ) (op : Op) (rs : List Start) → has_bytes (applied x op rs).0 ≡ true
-said-applied x (ops.Put key value) rs = said-own (record_of (record { owner = x; key = key }) rs) _ _ refl refl
-said-applied x (ops.Get owner key) rs = said-seen x (record_of (record { owner = owner; key = key }) rs)
-said-applied x (ops.Del key) rs = said-own (record_of (record { owner = x; key = key }) rs) _ _ refl refl
-said-applied x (ops.Cas key old new) rs = said-swapped (record_of (record { owner = x; key = key }) rs) old _ _ _ refl refl refl
-said-applied x (ops.Grant key client) rs = said-own (record_of (record { owner = x; key = key }) rs) _ _ refl refl
-said-applied x (ops.Revoke key client) rs = said-own (record_of (record { owner = x; key = key }) rs) _ _ refl refl
-said-applied x ops.Count rs = refl
-said-applied x ops.Keys rs = refl
 
 -- a reply that can be told, and a reference that keeps such replies alone
 pub record Tells (m : Reference) (reply : Reply) : Type 0 where

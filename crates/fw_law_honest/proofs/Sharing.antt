@@ -32,8 +32,8 @@ use Rattle.fw_rules.specs.Roles.{request_opened, given, step_all, executor_speec
 use Rattle.fw_rules.specs.Signing.{reply_text}
 use Rattle.fw_rules.specs.Deployed.{bodies_of}
 use Rattle.fw_law_honest.specs.Laws.{OneDecides}
-use Rattle.fw_law_honest.proofs.Listed.{EachFrom, EachFrom-left, EachFrom-last}
-use Rattle.fw_law_honest.proofs.Executing.{after_all}
+use Rattle.fw_source.proofs.Listed.{EachFrom, EachFrom-left, EachFrom-last}
+use Rattle.fw_law_exec.proofs.Folds.{after_all}
 use Rattle.fw_law_honest.proofs.OneList.{means}
 use Rattle.fw_law_honest.proofs.Values.{values_on, signed-values}
 use Rattle.fw_law_honest.proofs.Replying.{Keeps, start-keeps, step-keeps, Fits, own_key, entry-answer, told_all, told-behind, asker_parts}

@@ -10,14 +10,14 @@ use Rattle.fw_op.specs.declared.reply.Reply as said
 use Rattle.fw_op.specs.declared.start.Start.{Start}
 use Rattle.fw_trace.specs.declared.Told.{Told}
 use Rattle.fw_trace.specs.declared.Share as shares
-use Rattle.fw_trace.proofs.Words.{In}
+use Rattle.fw_trace.specs.Lists.{In}
 use Rattle.fw_frame.specs.View.{Entry, Given, Share, Reply, Frame, Agrees, Shares, Replies}
 use Rattle.fw_means.specs.Means.{when}
 use Rattle.fw_rules.specs.Means.{Means, Bodies}
 use Rattle.fw_rules.specs.Choices.{admitted}
 use Rattle.fw_rules.specs.Roles.{told_one, told_in, client_speech, agreed_frame, executor_speech, Valued, replied_number, share_from, joined, is_equal, combined_with, combined_of, filter_speech}
 use Rattle.fw_rules.specs.World as world
-use Rattle.fw_law_honest.proofs.Frames.{when-some}
+use Rattle.fw_lengths.proofs.Options.{when-some}
 use Rattle.fw_law_honest.proofs.Agreeing.{first_some-in}
 
 pub when-true : {A : Type 0} (b : Bool) (o : Option A) (x : A) → when b o ≡ Some x → b ≡ true
@@ -35,7 +35,7 @@ admits {M = M} {B = B} k seat from m f y e = by (admitted k seat from m) refl e
   where
     by : (o : Option Frame) → admitted k seat from m ≡ o → option_and_then f o ≡ Some y → Admits k f m y
     by None q h = absurd (none-some y h)
-    by (Some v) q h = record { frame = v; read = when-some _ (k.read m) v q; gives = h }
+    by (Some v) q h = record { frame = v; read = (when-some _ (k.read m) v q).1; gives = h }
 
 -- what an executor takes for agreed is so
 exec_agreed : (from : Seat) (v : Frame) (a : ℕ × Entry) → agreed_frame from v ≡ Some a → world.agreed_frame v ≡ Some a
@@ -63,7 +63,7 @@ from_filter k seat _ m _ n up read e = absurd (none-some n e)
 
 pub replied-heard : {M : Type 0} (k : Means M) (r c : ℕ) (from : Seat) (m : M) (n : ℕ) → (filter_speech k r c).replied from m ≡ Some n → FromAbove k (Filter r c) from m
 replied-heard k r c from m n e =
-    let x = admits k (Filter r c) from m (replied_number from) n (when-some _ _ n e) in
+    let x = admits k (Filter r c) from m (replied_number from) n ((when-some _ _ n e).1) in
     from_filter k (Filter r c) from m x.frame n (when-true _ _ n e) x.read x.gives
 
 -- a share from the executor that it names
@@ -80,7 +80,7 @@ from_exec k (Exec j) m (Shares x) s read e = record {
   share = x;
   own = refl;
   read = read;
-  same = sym (same_Some (record { number = x.number; exec = x.exec; value = (x.answers, x.values) }) s (when-some _ (Some (record { number = x.number; exec = x.exec; value = (x.answers, x.values) })) s e));
+  same = sym (same_Some (record { number = x.number; exec = x.exec; value = (x.answers, x.values) }) s ((when-some _ (Some (record { number = x.number; exec = x.exec; value = (x.answers, x.values) })) s e).1));
 }
 from_exec k _ m _ s read e = absurd (none-some s e)
 
@@ -108,7 +108,7 @@ combines k n kept m e =
       there = s.1;
       number = eqb-true s.0.number n both.0;
       enough = leb-true (k.params.g + 1) (length equal) both.1;
-      is = sym (same_Some made m (when-some _ (Some made) m s.2));
+      is = sym (same_Some made m ((when-some _ (Some made) m s.2).1));
     }
 
 -- what a client is told, by an answer of a reply from an agreement node

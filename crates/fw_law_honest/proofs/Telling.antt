@@ -19,8 +19,8 @@ use Rattle.fw_trace.specs.declared.Told.{Told}
 use Rattle.fw_trace.specs.Run.{NoLies}
 use Rattle.fw_trace.specs.Role.{kept}
 use Rattle.fw_trace.specs.Client.{client_role}
-use Rattle.fw_trace.proofs.Words.{In}
-use Rattle.fw_trace.proofs.Source.{EverSent, Pooled}
+use Rattle.fw_trace.specs.Lists.{In}
+use Rattle.fw_source.specs.Sources.{EverSent, Pooled}
 use Rattle.fw_frame.specs.View.{Entry, Given, Reply, Replies, viewed_answers}
 use Rattle.fw_directory.specs.Directories.{PlainDirectory}
 use Rattle.fw_hand.specs.Hands.{key_in}
@@ -34,9 +34,10 @@ use Rattle.fw_rules.specs.Roles.{told_one, client_speech}
 use Rattle.fw_rules.specs.Deployed.{bodies_of}
 use Rattle.fw_rules.specs.World.{rule_at, trace_after, agreed}
 use Rattle.fw_law_honest.specs.Laws.{OneDecides, deployed}
-use Rattle.fw_law_honest.proofs.Frames.{Reads, valid_reads, kind_in, reply_kind, written_again, when-some}
+use Rattle.fw_law_honest.proofs.Frames.{Reads, valid_reads, kind_in, reply_kind, written_again}
+use Rattle.fw_lengths.proofs.Options.{when-some}
 use Rattle.fw_law_honest.proofs.Agreeing.{SentDown, AgreeOut}
-use Rattle.fw_law_honest.proofs.Asking.{client_accepts}
+use Rattle.fw_law_client.proofs.Accepted.{client_accepts}
 use Rattle.fw_law_honest.proofs.Speaking.{when-true, FromNode, told-heard}
 use Rattle.fw_law_honest.proofs.OneList.{Events, pool_of, inputs, means, node_of, state_of, at_seat, heard, ever_sent, from_node, first_node, one_fault_less}
 use Rattle.fw_law_honest.proofs.Replying.{Fits}
@@ -68,7 +69,7 @@ told_again deal n c a g t fits there tells = by a.stamp refl there
         let own : a.client ≡ c = eqb-true a.client c (when-true (nat_eq a.client c) (option_map (λ r. record { number = n; stamp = stamp; reply = r }) ((bodies_of (hand_of deal (Client c))).open_reply c n a.body.bytes)) t told) in
         let opened_is = opens_again deal n c a fits (omega (arith, same, from)) own in
         let value : Some (record { number = n; stamp = stamp; reply = a.reply }) ≡ Some t =
-        sym (ap (option_map (λ r. record { number = n; stamp = stamp; reply = r })) opened_is) ∙ when-some (nat_eq a.client c) (option_map (λ r. record { number = n; stamp = stamp; reply = r }) ((bodies_of (hand_of deal (Client c))).open_reply c n a.body.bytes)) t told in
+        sym (ap (option_map (λ r. record { number = n; stamp = stamp; reply = r })) opened_is) ∙ (when-some (nat_eq a.client c) (option_map (λ r. record { number = n; stamp = stamp; reply = r }) ((bodies_of (hand_of deal (Client c))).open_reply c n a.body.bytes)) t told).1 in
         (own, ap (λ (s : ℕ). record { number = n; stamp = s; reply = a.reply }) same ∙ same_Some (record { number = n; stamp = stamp; reply = a.reply }) t value)
 
     by : (stamp : ℕ) → a.stamp ≡ stamp → In g (viewed_answers a.client stamp a.body.bytes) → (a.client ≡ c) × (record { number = n; stamp = a.stamp; reply = a.reply } ≡ t)

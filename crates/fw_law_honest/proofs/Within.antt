@@ -1,14 +1,17 @@
 -- What holds of each message of a whole pool, since each seat sends only such after it heard only such. Of what is sent it is known
 -- that it stands in the whole pool.
-use Rattle.std.proofs.Common.{inl, inr, List, [], ◌∷◌, sym, subst}
+use Rattle.std.proofs.Common.{inl, inr, List, [], ◌∷◌, sym, ◌∙◌, ap, subst}
+use Rattle.std.proofs.lemmas.Bool.{false≢true}
 use Rattle.fw_base.specs.declared.seat.Seat.{Seat}
 use Rattle.fw_trace.specs.declared.Input.{Input}
 use Rattle.fw_trace.specs.declared.Sent.{Sent}
 use Rattle.fw_trace.specs.declared.Logged.{Logged}
 use Rattle.fw_trace.specs.Trace.{Trace, Rules, Event, trace_of, history, takes}
-use Rattle.fw_trace.specs.Run.{NoLies}
-use Rattle.fw_trace.proofs.Words.{In, In-append, In-left}
-use Rattle.fw_trace.proofs.Source.{Hears, AllHeard, AllHeard-weaken, Pooled, Traced, traced, AllPooled, kept_by_events, from_seat-is, heard_after}
+use Rattle.fw_trace.specs.Run.{is_lie, NoLies}
+use Rattle.fw_trace.specs.Lists.{In}
+use Rattle.fw_trace.proofs.Words.{In-append, In-left}
+use Rattle.fw_source.specs.Sources.{Hears, AllHeard, Pooled, everyone, Traced, AllPooled}
+use Rattle.fw_source.proofs.Source.{AllHeard-weaken, traced_without_lies, kept_by_event, from_seat-is, heard_after}
 
 -- what a seat has heard: it stands in the whole pool, and is such
 abbrev pub Known : {M : Type 0} → List (Sent M) → (Seat → Seat → M → Type 0) → Seat → Seat → M → Type 0
@@ -26,9 +29,13 @@ such : {M O : Type 0} (r : Rules M O) (whole : List (Sent M)) (Q : Seat → Seat
     → (events : List (Event M O)) → NoLies events → Inside (trace_of r events).pool whole → AllPooled Q (trace_of r events).pool
 such r whole Q each [] a within = λ s i. absurd i
 such {M = M} {O = O} r whole Q each (e ∷ events) a within =
-    kept_by_events r (λ t. Inside t.pool whole → AllPooled Q t.pool) keeps e a.0 (trace_of r events) (traced r events a.1) (such r whole Q each events a.1) within
+    kept_by_event r (λ t. Inside t.pool whole → AllPooled Q t.pool) e (trace_of r events)
+    (λ l taker new. keeps (trace_of r events) l (traced_without_lies r events a.1) (such r whole Q each events a.1) new)
+    (λ s is. absurd (false≢true (sym a.0 ∙ ap is_lie is)))
+    (such r whole Q each events a.1)
+    within
   where
-    keeps : (t : Trace M O) (l : Logged M O) → Traced r t → (Inside t.pool whole → AllPooled Q t.pool) → Hears (Pooled t.pool l.seat) l.input
+    keeps : (t : Trace M O) (l : Logged M O) → Traced everyone r t → (Inside t.pool whole → AllPooled Q t.pool) → Hears (Pooled t.pool l.seat) l.input
         → Inside (takes r t l).pool whole → AllPooled Q (takes r t l).pool
     keeps t l k q new within s i =
         let before : Inside t.pool whole = λ x j. within x (In-left x t.pool _ j) in

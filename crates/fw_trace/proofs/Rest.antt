@@ -1,11 +1,11 @@
 -- The test of rest is rest: each frame between correct seats was delivered.
-use Rattle.std.proofs.Common.{◌≡◌, ℕ, zero, suc, ◌+◌, Bool, true, false, ◌&&◌, ◌||◌, not, List, [], ◌∷◌, Some, IsTrue, refl, sym, ap, subst, arith, ◌↔◌}
+use Rattle.std.proofs.Common.{◌≡◌, ℕ, zero, suc, ◌+◌, Bool, true, false, ◌&&◌, ◌||◌, not, List, [], ◌∷◌, Some, IsTrue, refl, sym, subst, arith, ◌↔◌}
 use Rattle.std.specs.Prelude.{slice_get}
 use Rattle.std.proofs.lemmas.Bool.{false≢true, and_parts, and_from}
 use Rattle.std.proofs.lemmas.Option.{none-some, same_Some}
 use Rattle.fw_trace.specs.declared.Sent.{Sent}
 use Rattle.fw_trace.specs.declared.Logged.{Logged}
-use Rattle.fw_trace.specs.Trace.{Trace, Rules, IsAtRest, rests_from, was_delivered}
+use Rattle.fw_trace.specs.Trace.{Rules, IsAtRest, rests_from, was_delivered}
 
 -- each frame of these, the first of which stands at place k, was delivered if it is between correct seats
 abbrev Rest : {M O : Type 0} → Rules M O → List (Logged M O) → ℕ → List (Sent M) → Type 0

@@ -1,5 +1,10 @@
 -- Words on lists that the definitions share.
-use Rattle.std.specs.Prelude.{ℕ, cond, nat_eq, max, List, [], ◌∷◌, Option, Some, None}
+use Rattle.std.specs.Prelude.{ℕ, cond, nat_eq, max, List, [], ◌∷◌, Option, Some, None, ◌≡◌, ◌⊎◌}
+
+-- x is an element
+abbrev pub In : {A : Type 0} → A → List A → Type 0
+In x [] = ⊥
+In x (y ∷ ys) = (x ≡ y) ⊎ In x ys
 
 -- the values up to the first place that has none
 abbrev pub front_of : {A : Type 0} → List (Option A) → List A

@@ -3,11 +3,6 @@
 //! The definitions stand in `specs/`. `M` are messages, `O` operations, `R` replies.
 #![tactic(auto)]
 
-ghost use Rattle.std.specs.Prelude.{◌≡◌, ℕ, List, None, Ok};
-ghost use Rattle.fw_trace.specs.declared.Sent.{Sent};
-ghost use Rattle.fw_trace.specs.Trace.{Trace, Event, trace_of};
-ghost use Rattle.fw_trace.specs.Run.{World, Step, run, NoLies, Reached};
-
 use fw_base::Seat;
 
 /// What a seat is given.
@@ -51,9 +46,3 @@ pub struct Share<V> {
     pub exec: u32,
     pub value: V,
 }
-
-/// A run that didn't fail is the trace of events that have no fault, and of events without lies where nobody lies.
-pub fn law_run()
-    ensures fair { (w : World ℕ ℕ ℕ ℕ) (steps : List (Step ℕ ℕ)) (t : Trace ℕ ℕ) → run w steps ≡ Ok t → Reached w t }
-    ensures honest { (w : World ℕ ℕ ℕ ℕ) → ((lie : ℕ) (pool : List (Sent ℕ)) → w.lie lie pool ≡ None) → (steps : List (Step ℕ ℕ)) (t : Trace ℕ ℕ) → run w steps ≡ Ok t → (events : List (Event ℕ ℕ)) × NoLies events × (t ≡ trace_of w.rules events) }
-{}

@@ -1,0 +1,4 @@
+-- The files of lemmas.
+pub mod Stamps
+pub mod Front
+pub mod Sight

@@ -1,0 +1,4 @@
+-- The files of lemmas.
+pub mod Fronts
+pub mod OneText
+pub mod ByBits

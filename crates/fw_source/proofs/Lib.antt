@@ -1,0 +1,5 @@
+-- The files of lemmas.
+pub mod Source
+pub mod Shown
+pub mod Reached
+pub mod Listed
