@@ -1,0 +1,5 @@
+-- The files of definitions.
+pub mod Sources
+pub mod Asked
+pub mod Executed
+pub mod Joined
