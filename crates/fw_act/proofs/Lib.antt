@@ -1,4 +1,4 @@
 -- The files of lemmas.
 pub mod Votes
 pub mod Others
-pub mod Writing
+pub mod Held

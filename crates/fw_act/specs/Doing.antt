@@ -1,11 +1,11 @@
 -- What an agreement node needs to do an act: its hand, and an act of the deployment. And who gets what it sends.
-use Rattle.std.specs.Prelude.{ℕ, ◌≡◌, ◌<◌, ◌≤◌, ◌^◌, not, nat_eq, List, [], ◌∷◌, ◌++◌, length, map, filter, All, IsTrue}
+use Rattle.std.specs.Prelude.{ℕ, ◌≡◌, ◌<◌, ◌≤◌, not, nat_eq, List, [], ◌∷◌, ◌++◌, length, map, filter, All, IsTrue}
 use Rattle.fw_list.specs.Lists.{numbers_from}
 use Rattle.fw_list.specs.declared.limits.TheConstants.{ROW_LEN}
 use Rattle.fw_base.specs.declared.params.Params.{Params}
 use Rattle.fw_base.specs.declared.seat.Seat.{Seat}
 use Rattle.fw_base.specs.declared.seat.Seat.TheVariants as seats
-use Rattle.fw_base.specs.Sizes.{accepted, agreements}
+use Rattle.fw_base.specs.Sizes.{accepted, agreements, quorum}
 use Rattle.fw_hand.specs.Hands.{PlainHand, slots_of, clients_of}
 use Rattle.fw_frame.specs.View.{Vote}
 use Rattle.fw_rules.specs.Agree.{Node}
@@ -25,13 +25,13 @@ pub record IsAgreements (p : Params) (i : ℕ) (hand : PlainHand) : Type 0 where
 abbrev pub IsNumber : Params → ℕ → Type 0
 IsNumber p n = (1 ≤ n) × (n ≤ p.numbers)
 
--- what is voted for has a number of the list, and what goes up has signers that can be counted in four bytes
+-- what is voted for has a number of the list, and what is agreed has a quorum of signers
 abbrev pub IsDoable : Params → Act → Type 0
 IsDoable p (act.Offer number entry) = IsNumber p number
 IsDoable p (act.Prepare number entry) = IsNumber p number
 IsDoable p (act.Pledge number entry signers) = IsNumber p number
-IsDoable p (act.Commit agreed) = Unit {0}
-IsDoable p (act.Up agreed) = length agreed.signers < 2 ^ 32
+IsDoable p (act.Commit agreed) = length agreed.signers ≡ quorum p
+IsDoable p (act.Up agreed) = Unit {0}
 
 -- all agreement nodes but one
 abbrev pub others : Params → ℕ → List Seat

@@ -1,12 +1,16 @@
 //! The acts of an agreement node.
 
 ghost use Rattle.std.specs.Prelude.{◌≡◌, ◌++◌, ◌<◌, ◌^◌, ℕ, IfOk, OnOk, OnErr, IsTrue, length, map};
+ghost use Rattle.fw_base.specs.declared.params.Params.{Params};
 ghost use Rattle.fw_base.specs.Sizes.{accepted};
+ghost use Rattle.fw_kept.specs.declared.keeps.Act.TheVariants.{Up};
 ghost use Rattle.fw_hand.specs.Hands.{PlainHand};
 ghost use Rattle.fw_frame.specs.View.{Proposes, Agrees};
 ghost use Rattle.fw_means.specs.Means.{written};
 ghost use Rattle.fw_rules.specs.Agree as agree;
-ghost use Rattle.fw_kept.specs.Kept.{self_of, node_of, act_of, entry_of, signer_of, agreed_of};
+ghost use Rattle.fw_kept.specs.Kept.{self_of, node_of, act_of, IsFor};
+ghost use Rattle.fw_kept.specs.Pieces.{entry_of, signer_of, agreed_of};
+ghost use Rattle.fw_choose.specs.Acts.{IsOpen};
 ghost use Rattle.fw_act.specs.Doing.{IsAgreements, IsNumber, IsDoable};
 
 use crate::sending::{send_to_others, send_to_row0};
@@ -14,9 +18,7 @@ use crate::signing::{own_vote, vote_frame};
 use fw_directory::Directory;
 use fw_frame::{Frame, entry_digest};
 use fw_hand::Hand;
-use fw_kept::{
-    Act, Cast, Keeps, OwnedAgreed, OwnedEntry, OwnedProof, OwnedSigners, Pledge, lent_signers,
-};
+use fw_kept::{Act, Cast, Keeps, OwnedAgreed, OwnedEntry, OwnedProof, OwnedSigners, Pledge};
 use fw_list::{Bytes, Memory};
 use fw_node::Outbox;
 use std::alloc::Global;
@@ -54,6 +56,7 @@ fn offers(
     requires number { IsNumber directory.now.params number }
     ensures kept { OnOk result (node_of keeps.new ≡ (agree.performs (self_of directory.now hand.now own) (node_of keeps.old) (agree.Offer number (entry_of entry))).0) }
     ensures sent { OnOk result (out.new ≡ out.old ++ (agree.performs (self_of directory.now hand.now own) (node_of keeps.old) (agree.Offer number (entry_of entry))).1) }
+    ensures sizes { (p : Params) → IsFor p keeps.old → IsFor p keeps.new }
     ensures err { OnErr result (out.new ≡ out.old) }
 {
     let digest = entry_digest(&entry.lent());
@@ -66,7 +69,7 @@ fn offers(
         number,
         entry,
     })?;
-    send_to_others(alloc, directory, own, &bytes, out)
+    send_to_others(alloc, directory, own, bytes.items(), out)
 }
 
 /// Makes a prepare vote. After want of memory the outbox is as before.
@@ -84,6 +87,7 @@ fn prepares(
     requires number { IsNumber directory.now.params number }
     ensures kept { OnOk result (node_of keeps.new ≡ (agree.performs (self_of directory.now hand.now own) (node_of keeps.old) (agree.Prepare number (entry_of entry))).0) }
     ensures sent { OnOk result (out.new ≡ out.old ++ (agree.performs (self_of directory.now hand.now own) (node_of keeps.old) (agree.Prepare number (entry_of entry))).1) }
+    ensures sizes { (p : Params) → IsFor p keeps.old → IsFor p keeps.new }
     ensures err { OnErr result (out.new ≡ out.old) }
 {
     let digest = entry_digest(&entry.lent());
@@ -95,7 +99,7 @@ fn prepares(
         number,
         entry,
     })?;
-    send_to_others(alloc, directory, own, &bytes, out)
+    send_to_others(alloc, directory, own, bytes.items(), out)
 }
 
 /// Makes a commit vote, and keeps its proof. After want of memory the outbox is as before.
@@ -114,6 +118,7 @@ fn pledges(
     requires number { IsNumber directory.now.params number }
     ensures kept { OnOk result (node_of keeps.new ≡ (agree.performs (self_of directory.now hand.now own) (node_of keeps.old) (agree.Pledge_to number (entry_of entry) (map signer_of signers))).0) }
     ensures sent { OnOk result (out.new ≡ out.old ++ (agree.performs (self_of directory.now hand.now own) (node_of keeps.old) (agree.Pledge_to number (entry_of entry) (map signer_of signers))).1) }
+    ensures sizes { (p : Params) → IsFor p keeps.old → IsFor p keeps.new }
     ensures err { OnErr result (out.new ≡ out.old) }
 {
     let digest = entry_digest(&entry.lent());
@@ -131,24 +136,10 @@ fn pledges(
         entry,
         signers,
     })?;
-    send_to_others(alloc, directory, own, &bytes, out)
+    send_to_others(alloc, directory, own, bytes.items(), out)
 }
 
-/// The frame of an agreed entry.
-fn agreed_frame(alloc: Global, agreed: &OwnedAgreed) -> Result<Bytes, Memory>
-    requires { length agreed.now.signers < 2 ^ 32 }
-    ensures { IfOk result (λ bytes. bytes ≡ written (Agrees (agreed_of agreed.now))) }
-{
-    Frame::Agreed {
-        view: agreed.view,
-        number: agreed.number,
-        entry: agreed.entry.lent(),
-        signers: lent_signers(alloc, agreed.signers.items())?,
-    }
-    .write(alloc)
-}
-
-/// Sends an agreed entry up. After want of memory the outbox is as before.
+/// Sends what is agreed at the next number up. After want of memory the outbox is as before.
 fn sends_up(
     alloc: Global,
     directory: &Directory,
@@ -157,14 +148,18 @@ fn sends_up(
     out: &mut Outbox,
 ) -> Result<(), Memory>
     requires sizes { IsTrue (accepted directory.now.params) }
-    requires signers { length agreed.now.signers < 2 ^ 32 }
+    requires open { IsOpen keeps.old (Up agreed.now) }
     ensures kept { OnOk result ((hand : PlainHand) (own : ℕ) → node_of keeps.new ≡ (agree.performs (self_of directory.now hand own) (node_of keeps.old) (agree.Up (agreed_of agreed.now))).0) }
     ensures sent { OnOk result ((hand : PlainHand) (own : ℕ) → out.new ≡ out.old ++ (agree.performs (self_of directory.now hand own) (node_of keeps.old) (agree.Up (agreed_of agreed.now))).1) }
+    ensures sizes { (p : Params) → IsFor p keeps.old → IsFor p keeps.new }
     ensures err { OnErr result (out.new ≡ out.old) }
 {
-    let bytes = agreed_frame(alloc, agreed)?;
-    keeps.up = agreed.number;
-    send_to_row0(alloc, directory, &bytes, out)
+    match keeps.settled.agreed_frame(agreed.number) {
+        Some(frame) => send_to_row0(alloc, directory, frame, out)?,
+        None => unreachable!(),
+    }
+    keeps.settled.goes_up(agreed.number);
+    Ok(())
 }
 
 /// Does what was chosen. With Ok what it keeps and what it sends are as the rule of an agreement node has it; after want of memory the
@@ -180,8 +175,11 @@ pub fn performs(
 ) -> Result<(), Memory>
     requires hand { IsAgreements directory.now.params own hand.now }
     requires act { IsDoable directory.now.params act }
+    requires open { IsOpen keeps.old act }
+    requires for_sizes { IsFor directory.now.params keeps.old }
     ensures kept { OnOk result (node_of keeps.new ≡ (agree.performs (self_of directory.now hand.now own) (node_of keeps.old) (act_of act)).0) }
     ensures sent { OnOk result (out.new ≡ out.old ++ (agree.performs (self_of directory.now hand.now own) (node_of keeps.old) (act_of act)).1) }
+    ensures sizes { (p : Params) → IsFor p keeps.old → IsFor p keeps.new }
     ensures err { OnErr result (out.new ≡ out.old) }
 {
     match act {
@@ -198,7 +196,7 @@ pub fn performs(
         } => pledges(
             alloc, directory, own, hand, keeps, number, entry, signers, out,
         ),
-        Act::Commit(agreed) => keeps.committed.push(agreed),
+        Act::Commit(agreed) => keeps.settled.commit(agreed),
         Act::Up(agreed) => sends_up(alloc, directory, keeps, &agreed, out),
     }
 }

@@ -1,7 +1,8 @@
 //! What an agreement node keeps of the frames that it hears, and what it sends of replies.
 
-ghost use Rattle.std.specs.Prelude.{◌≡◌, ◌++◌, ◌∷◌, [], ℕ, IfOk, OnOk, OnErr, is_some, map, IsTrue};
+ghost use Rattle.std.specs.Prelude.{◌≡◌, ◌++◌, ◌∷◌, [], ℕ, OnOk, OnErr, map, IsTrue};
 ghost use Rattle.std.specs.List.{list_any};
+ghost use Rattle.fw_base.specs.declared.params.Params.{Params};
 ghost use Rattle.fw_base.specs.Sizes.{accepted};
 ghost use Rattle.fw_hand.specs.Hands.{PlainHand};
 ghost use Rattle.fw_directory.specs.Directories.{PlainDirectory};
@@ -9,14 +10,15 @@ ghost use Rattle.fw_frame.specs.Plain.{plain_request, plain_entry};
 ghost use Rattle.fw_frame.specs.View.{Replies, viewed_request, viewed_entry, viewed_answers};
 ghost use Rattle.fw_means.specs.Means.{written};
 ghost use Rattle.fw_rules.specs.Agree as agree;
-ghost use Rattle.fw_kept.specs.Kept.{self_of, node_of, request_of, reply_of};
+ghost use Rattle.fw_kept.specs.Kept.{self_of, node_of, IsFor};
+ghost use Rattle.fw_kept.specs.Pieces.{request_of, reply_of};
 ghost use Rattle.fw_act.specs.Doing.{with_vote};
 
 use fw_base::Seat;
 use fw_directory::Directory;
-use fw_frame::{Entry, Frame, Request, entry_digest};
+use fw_frame::{Entry, Request, entry_digest};
 use fw_kept::{Keeps, OwnedEntry, OwnedPropose, OwnedReply, OwnedRequest, OwnedVote};
-use fw_list::{BODY_LEN, Bytes, Memory};
+use fw_list::{Bytes, Memory};
 use fw_node::{Outbox, Sent};
 use std::alloc::Global;
 
@@ -47,7 +49,8 @@ pub fn remembers_request(
     keeps: &mut Keeps,
     request: &Request<'_>,
 ) -> Result<(), Memory>
-    ensures { OnOk result (node_of keeps.new ≡ agree.remembers_request (node_of keeps.old) (viewed_request (plain_request request.now))) }
+    ensures kept { OnOk result (node_of keeps.new ≡ agree.remembers_request (node_of keeps.old) (viewed_request (plain_request request.now))) }
+    ensures sizes { (p : Params) → IsFor p keeps.old → IsFor p keeps.new }
 {
     if is_among(keeps.requests.items(), request) {
         return Ok(());
@@ -68,7 +71,8 @@ pub fn hears_proposal(
     sig: &[u8],
 ) -> Result<(), Memory>
     requires { IsTrue (accepted directory.now.params) }
-    ensures { OnOk result ((hand : PlainHand) (own : ℕ) → node_of keeps.new ≡ agree.hears_proposal (self_of directory.now hand own) (node_of keeps.old) (record { view = view; number = number; entry = viewed_entry (plain_entry entry.now); sig = sig.now })) }
+    ensures kept { OnOk result ((hand : PlainHand) (own : ℕ) → node_of keeps.new ≡ agree.hears_proposal (self_of directory.now hand own) (node_of keeps.old) (record { view = view; number = number; entry = viewed_entry (plain_entry entry.now); sig = sig.now })) }
+    ensures sizes { (p : Params) → IsFor p keeps.old → IsFor p keeps.new }
 {
     let digest = entry_digest(entry);
     keeps.votes.push(OwnedVote {
@@ -76,7 +80,7 @@ pub fn hears_proposal(
         view,
         number,
         agree: view % directory.params().agreements(),
-        digest: Bytes::copy_of(alloc, &digest)?,
+        digest,
         sig: Bytes::copy_of(alloc, sig)?,
     })?;
     keeps.seen.push(OwnedEntry::copy_of(alloc, entry)?)?;
@@ -96,51 +100,20 @@ pub fn hears_vote(
     view: u32,
     number: u32,
     agree: u32,
-    digest: &[u8],
+    digest: &[u8; 32],
     sig: &[u8],
 ) -> Result<(), Memory>
-    ensures { OnOk result (node_of keeps.new ≡ with_vote (node_of keeps.old) (record { phase = phase; view = view; number = number; agree = agree; digest = digest.now; sig = sig.now })) }
+    ensures kept { OnOk result (node_of keeps.new ≡ with_vote (node_of keeps.old) (record { phase = phase; view = view; number = number; agree = agree; digest = digest.now; sig = sig.now })) }
+    ensures sizes { (p : Params) → IsFor p keeps.old → IsFor p keeps.new }
 {
     keeps.votes.push(OwnedVote {
         phase,
         view,
         number,
         agree,
-        digest: Bytes::copy_of(alloc, digest)?,
+        digest: *digest,
         sig: Bytes::copy_of(alloc, sig)?,
     })
-}
-
-/// The frame of a reply without an answer: its client is 0, and its body is zeros.
-#[tactic(auto, unfolding(fw_frame::specs::View::null_body))]
-fn null_frame(alloc: Global, number: u32, values: &[u8]) -> Result<Bytes, Memory>
-    ensures { IfOk result (λ bytes. bytes ≡ written (Replies (record { number = number; answers = []; values = values.now }))) }
-{
-    Frame::Reply {
-        number,
-        client: 0,
-        stamp: 0,
-        body: &[0; BODY_LEN],
-        secrets: values,
-    }
-    .write(alloc)
-}
-
-/// The frame of a reply.
-fn reply_frame(alloc: Global, reply: &OwnedReply) -> Result<Bytes, Memory>
-    ensures { IfOk result (λ bytes. bytes ≡ written (Replies (reply_of reply.now))) }
-{
-    if reply.stamp == 0 {
-        return null_frame(alloc, reply.number, reply.values.items());
-    }
-    Frame::Reply {
-        number: reply.number,
-        client: reply.client,
-        stamp: reply.stamp,
-        body: reply.body.items(),
-        secrets: reply.values.items(),
-    }
-    .write(alloc)
 }
 
 /// Sends a reply that it holds to a seat. After want of memory the outbox is as before.
@@ -153,12 +126,12 @@ pub fn resends(
     ensures sent { OnOk result (out.new ≡ out.old ++ (from, written (Replies (reply_of reply.now))) ∷ []) }
     ensures err { OnErr result (out.new ≡ out.old) }
 {
-    let bytes = reply_frame(alloc, reply)?;
+    let bytes = reply.frame(alloc)?;
     out.push(Sent { to: from, bytes })
 }
 
 /// Holds the first reply of a number, and sends it to the client of its answer; one of a number of which a reply is held changes
-/// nothing. After want of memory the outbox is as before.
+/// nothing, and needs no memory. After want of memory the outbox is as before.
 pub fn hears_reply(
     alloc: Global,
     keeps: &mut Keeps,
@@ -167,15 +140,14 @@ pub fn hears_reply(
     stamp: u32,
     body: &[u8],
     values: &[u8],
-    held: bool,
     out: &mut Outbox,
 ) -> Result<(), Memory>
-    requires { held ≡ is_some (agree.reply_of (map reply_of keeps.old.held) number) }
     ensures kept { OnOk result ((d : PlainDirectory) (hand : PlainHand) (own : ℕ) → node_of keeps.new ≡ (agree.hears_reply (self_of d hand own) (node_of keeps.old) (record { number = number; answers = viewed_answers client stamp body.now; values = values.now })).0) }
     ensures sent { OnOk result ((d : PlainDirectory) (hand : PlainHand) (own : ℕ) → out.new ≡ out.old ++ (agree.hears_reply (self_of d hand own) (node_of keeps.old) (record { number = number; answers = viewed_answers client stamp body.now; values = values.now })).1) }
+    ensures sizes { (p : Params) → IsFor p keeps.old → IsFor p keeps.new }
     ensures err { OnErr result (out.new ≡ out.old) }
 {
-    if held {
+    if keeps.settled.reply_at(number).is_some() {
         return Ok(());
     }
     let reply = OwnedReply {
@@ -185,11 +157,12 @@ pub fn hears_reply(
         body: Bytes::copy_of(alloc, body)?,
         values: Bytes::copy_of(alloc, values)?,
     };
-    let bytes = reply_frame(alloc, &reply)?;
-    keeps.held.push(reply)?;
     if stamp == 0 {
+        keeps.settled.hold(reply)?;
         return Ok(());
     }
+    let bytes = reply.frame(alloc)?;
+    keeps.settled.hold(reply)?;
     out.push(Sent {
         to: Seat::Client(client),
         bytes,

@@ -11,7 +11,7 @@ ghost use Rattle.fw_act.specs.Doing.{others};
 
 use fw_base::{Params, Seat, Seats};
 use fw_directory::Directory;
-use fw_list::{Bytes, Memory};
+use fw_list::Memory;
 use fw_node::{Outbox, row_seats};
 use std::alloc::Global;
 
@@ -34,7 +34,7 @@ pub(crate) fn send_to_others(
     alloc: Global,
     directory: &Directory,
     own: u32,
-    bytes: &Bytes,
+    bytes: &[u8],
     out: &mut Outbox,
 ) -> Result<(), Memory>
     requires { IsTrue (accepted directory.now.params) }
@@ -42,14 +42,14 @@ pub(crate) fn send_to_others(
     ensures err { OnErr result (out.new ≡ out.old) }
 {
     let to = other_agreements(alloc, directory.params(), own)?;
-    out.send_to_all(alloc, to.items(), bytes.items())
+    out.send_to_all(alloc, to.items(), bytes)
 }
 
 /// Sends a frame to the filters of row 0. After want of memory the outbox is as before.
 pub(crate) fn send_to_row0(
     alloc: Global,
     directory: &Directory,
-    bytes: &Bytes,
+    bytes: &[u8],
     out: &mut Outbox,
 ) -> Result<(), Memory>
     requires { IsTrue (accepted directory.now.params) }
@@ -57,5 +57,5 @@ pub(crate) fn send_to_row0(
     ensures err { OnErr result (out.new ≡ out.old) }
 {
     let to = row_seats(alloc, directory.params(), 0)?;
-    out.send_to_all(alloc, to.items(), bytes.items())
+    out.send_to_all(alloc, to.items(), bytes)
 }

@@ -6,7 +6,8 @@ ghost use Rattle.fw_frame.specs.Parts.{vote_slot};
 ghost use Rattle.fw_frame.specs.View.{Votes};
 ghost use Rattle.fw_means.specs.Means.{signed_by, written};
 ghost use Rattle.fw_rules.specs.Agree as agree;
-ghost use Rattle.fw_kept.specs.Kept.{self_of, vote_of};
+ghost use Rattle.fw_kept.specs.Kept.{self_of};
+ghost use Rattle.fw_kept.specs.Pieces.{vote_of};
 ghost use Rattle.fw_act.specs.Doing.{IsAgreements, IsNumber};
 
 use fw_digest::digest;
@@ -69,7 +70,7 @@ pub(crate) fn own_vote(
         view: 0,
         number,
         agree: own,
-        digest: Bytes::copy_of(alloc, entry)?,
+        digest: *entry,
         sig: Bytes::copy_of(alloc, &sig)?,
     })
 }
@@ -83,7 +84,7 @@ pub(crate) fn vote_frame(alloc: Global, vote: &OwnedVote) -> Result<Bytes, Memor
         view: vote.view,
         number: vote.number,
         agree: vote.agree,
-        digest: vote.digest.items(),
+        digest: &vote.digest,
         sig: vote.sig.items(),
     }
     .write(alloc)

@@ -1,25 +1,28 @@
 -- What was heard, and the passes after it.
-use Rattle.std.proofs.Common.{◌≡◌, ℕ, zero, List, [], ◌∷◌, ◌++◌, length, take, All, Option, Some, None, refl, sym, ap, subst, ◌∙◌, inl, inr}
-use Rattle.std.specs.Prelude.{IfSome, is_some, option_and_then}
-use Rattle.std.specs.List.{list_any}
-use Rattle.std.proofs.lemmas.Bool.{cases_Bool}
+use Rattle.std.proofs.Common.{◌≡◌, ℕ, ◌&&◌, nat_le, nat_lt, List, [], ◌∷◌, ◌++◌, length, take, Option, Some, None, refl, sym, ap, subst, ◌∙◌, IsTrue}
+use Rattle.std.specs.Prelude.{option_and_then}
+use Rattle.std.proofs.lemmas.Bool.{and_parts, eqb-true}
 use Rattle.std.proofs.lemmas.List.{append-nil}
 use Rattle.std.proofs.Math.Seq.{take-append_seam}
 use Rattle.fw_base.specs.declared.params.Params.{Params}
 use Rattle.fw_base.specs.declared.seat.Seat.{Seat}
-use Rattle.fw_base.specs.declared.seat.Seat.TheVariants.{Agree, Filter, Client}
-use Rattle.fw_base.specs.Sizes.{quorum}
+use Rattle.fw_base.specs.Sizes.{agreements}
+use Rattle.fw_frame.specs.Frames.{PlainFrame}
+use Rattle.fw_frame.specs.Frames as plains
+use Rattle.fw_frame.specs.Ranges.{frame_fits, view_fits, number_fits, has_length, values_fit}
+use Rattle.fw_lengths.proofs.Admitted.{admitted-shows}
 use Rattle.fw_directory.specs.Directories.{PlainDirectory}
 use Rattle.fw_hand.specs.Hands.{PlainHand}
 use Rattle.fw_frame.specs.View as frames
-use Rattle.fw_frame.specs.View.{Frame, Asks, Proposes, Votes, Replies}
-use Rattle.fw_means.specs.Means.{written}
+use Rattle.fw_frame.specs.View.{Frame, Replies, viewed}
+use Rattle.fw_means.specs.Means.{written, admitted_by}
 use Rattle.fw_node.specs.Histories.{Out}
 use Rattle.fw_rules.specs.Agree as agree
 use Rattle.fw_rules.specs.Agree.{Node, Self, Step}
 use Rattle.fw_kept.specs.declared.owned.OwnedReply.{OwnedReply}
-use Rattle.fw_kept.specs.Kept.{self_of, reply_of}
-use Rattle.fw_agree.specs.Steps.{behind, behind_some, AreSigned}
+use Rattle.fw_kept.specs.Kept.{self_of}
+use Rattle.fw_kept.specs.Pieces.{reply_of}
+use Rattle.fw_agree.specs.Steps.{behind, behind_some, HasDigest}
 use Rattle.fw_agree.proofs.Going.{passes_behind}
 
 -- ---- a request
@@ -35,34 +38,25 @@ unanswered d hand own x y from r out none kept =
     ap (λ (z : Node). (z, out)) kept ∙ ap (λ (o : Out). (agree.remembers_request x r, o)) (sym (append-nil out))
     ∙ ap (λ o. behind out (agree.hears_request (self_of d hand own) x from r o)) none
 
--- ---- what is agreed stays as it is
+-- ---- a valid vote names a digest
 
-remembers_agreed : (x : Node) (r : frames.Request) → (agree.remembers_request x r).committed ≡ x.committed
-remembers_agreed x r = elim (cases_Bool (list_any (agree.same_request r) x.heard.requests)) [ inl is ↦ rw is refl | inr other ↦ rw other refl ]
+pub fits_digest : (p : Params) (f : PlainFrame) → IsTrue (frame_fits p f) → HasDigest (viewed f)
+fits_digest p (plains.Vote phase view number agree digest sig) fit =
+    let front = and_parts (nat_le phase 1 && view_fits p view && number_fits p number && nat_lt agree (agreements p) && has_length 32 digest) (values_fit sig) fit in
+    eqb-true (length digest) 32 (and_parts (nat_le phase 1 && view_fits p view && number_fits p number && nat_lt agree (agreements p)) (has_length 32 digest) front.0).1
+fits_digest p (plains.Request r) fit = tt
+fits_digest p (plains.Propose view number entry sig) fit = tt
+fits_digest p (plains.Change c) fit = tt
+fits_digest p (plains.NewView view changes sig) fit = tt
+fits_digest p (plains.Agreed view number entry signers) fit = tt
+fits_digest p (plains.Share number exec client stamp body shares) fit = tt
+fits_digest p (plains.Reply number client stamp body secrets) fit = tt
+fits_digest p (plains.Want number) fit = tt
 
-request_agreed : (me : Self (List ℕ)) (x : Node) (from : Seat) (r : frames.Request) (o : Option frames.Reply) → (agree.hears_request me x from r o).0.committed ≡ x.committed
-request_agreed me x from r None = remembers_agreed x r
-request_agreed me x from r (Some reply) = refl
-
-reply_agreed : (me : Self (List ℕ)) (x : Node) (r : frames.Reply) → (agree.hears_reply me x r).0.committed ≡ x.committed
-reply_agreed me x r = elim (cases_Bool (is_some (agree.reply_of x.heard.held r.number))) [ inl is ↦ rw is refl | inr other ↦ rw other refl ]
-
-heard_agreed : (me : Self (List ℕ)) (x : Node) (from : Seat) (f : Frame) → IfSome (agree.hears me x from f) (λ s. s.0.committed ≡ x.committed)
-heard_agreed me x (Client c) (Asks r) = request_agreed me x (Client c) r (agree.reply_to me x r.client r.stamp)
-heard_agreed me x (Agree i) (Proposes m) = refl
-heard_agreed me x (Agree i) (Votes v) = refl
-heard_agreed me x (Filter zero c) (Replies r) = reply_agreed me x r
-heard_agreed me x _ _ = tt
-
-some_signed : (p : Params) (x y : Node) (out new : Out) (o : Option (Step (List ℕ))) → IfSome o (λ s. s.0.committed ≡ x.committed) → behind_some out o ≡ Some (y, new) → AreSigned p x → AreSigned p y
-some_signed p x y out new None same is all = absurd (let no : ⊥ = cc in no)
-some_signed p x y out new (Some s) same is all =
-    let pair : behind out s ≡ (y, new) = cc in
-    let node : s.0 ≡ y = ap (λ t. t.0) pair in
-    subst (λ z. AreSigned p z) node (subst (λ l. All (λ (a : frames.Agreed). length a.signers ≡ quorum p) l) (sym same) all)
-
-pub heard_signed : (p : Params) (me : Self (List ℕ)) (x y : Node) (from : Seat) (f : Frame) (out new : Out) → behind_some out (agree.hears me x from f) ≡ Some (y, new) → AreSigned p x → AreSigned p y
-heard_signed p me x y from f out new is all = some_signed p x y out new (agree.hears me x from f) (heard_agreed me x from f) is all
+pub admitted_digest : (d : PlainDirectory) (own from : Seat) (bytes : List ℕ) (v : Frame) → admitted_by d own from bytes ≡ Some v → HasDigest v
+admitted_digest d own from bytes v e =
+    let shown = (admitted-shows d own from bytes v e).1 in
+    subst HasDigest shown.seen (fits_digest d.params shown.frame shown.fits)
 
 -- ---- what is sent stands behind what was there
 

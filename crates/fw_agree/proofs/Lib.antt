@@ -1,6 +1,6 @@
 -- The files of lemmas.
 pub mod Going
 pub mod Beginning
-pub mod Signed
+pub mod Doable
 pub mod Heard
 pub mod Sends

@@ -1,7 +1,6 @@
 -- A step of an agreement node's rule, seen in what it keeps and in its outbox.
-use Rattle.std.specs.Prelude.{ℕ, ◌≡◌, Bool, true, false, List, ◌++◌, length, All, Option, Some, None}
-use Rattle.fw_base.specs.declared.params.Params.{Params}
-use Rattle.fw_base.specs.Sizes.{quorum}
+use Rattle.std.specs.Prelude.{ℕ, ◌≡◌, Bool, true, false, List, ◌++◌, length, ⊤, Option, Some, None}
+use Rattle.fw_frame.specs.View.{Frame, Votes}
 use Rattle.fw_node.specs.Histories.{Out}
 use Rattle.fw_rules.specs.Agree as agree
 use Rattle.fw_rules.specs.Agree.{Node, Self, Step}
@@ -35,6 +34,7 @@ chooses pass.Pledges me x n = agree.pledges me x n
 chooses pass.Commits me x n = agree.commits me x n
 chooses pass.Ups me x n = agree.goes_up me x n
 
--- what is agreed has a quorum of signers
-abbrev pub AreSigned : Params → Node → Type 0
-AreSigned p x = All (λ a. length a.signers ≡ quorum p) x.committed
+-- a vote names the digest of an entry
+abbrev pub HasDigest : Frame → Type 0
+HasDigest (Votes v) = length v.digest ≡ 32
+HasDigest _ = ⊤

@@ -1,16 +1,17 @@
 //! The node of an agreement node.
 
 ghost use Rattle.std.specs.Prelude.{◌≡◌, ◌++◌, [], false, length, take, IfOk, OnOk, OnErr};
+ghost use Rattle.fw_base.specs.declared.params.Params.{Params};
 ghost use Rattle.fw_base.specs.declared.seat.Seat.TheVariants.{Agree};
 ghost use Rattle.fw_op.specs.declared.op.Op.{Op};
 ghost use Rattle.fw_directory.specs.Directories.{PlainDirectory};
 ghost use Rattle.fw_trace.specs.declared.Input.TheVariants.{Heard};
 ghost use Rattle.fw_node.specs.Histories.{History, taken};
 ghost use Rattle.fw_rules.specs.Agree as rules;
-ghost use Rattle.fw_kept.specs.Kept.{self_of, node_of};
+ghost use Rattle.fw_kept.specs.Kept.{self_of, node_of, IsFor};
 ghost use Rattle.fw_act.specs.Doing.{IsAgreements};
 ghost use Rattle.fw_agree.specs.Standing.{StandsFor, keeps_after, number_of, rule_of};
-ghost use Rattle.fw_agree.specs.Steps.{at, behind, AreSigned};
+ghost use Rattle.fw_agree.specs.Steps.{at, behind};
 
 use crate::hearing::hears;
 use crate::passes::passes;
@@ -39,16 +40,15 @@ pub struct AgreeNode {
 
 impl Model for AgreeNode {
     ghost use Rattle.std.specs.Prelude.{◌≡◌, false};
-    ghost use Rattle.fw_kept.specs.Kept.{node_of};
+    ghost use Rattle.fw_kept.specs.Kept.{node_of, IsFor};
     ghost use Rattle.fw_act.specs.Doing.{IsAgreements};
     ghost use Rattle.fw_agree.specs.Standing.{Agreer};
-    ghost use Rattle.fw_agree.specs.Steps.{AreSigned};
 
     ghost Value = { Agreer };
 
     ghost view = { λ n. record { params = n.params; own = n.own; hand = n.hand; keeps = node_of n.keeps; stopped = n.stopped } };
 
-    ghost invariant = { λ n. IsAgreements n.params n.own n.hand × (n.stopped ≡ false → AreSigned n.params (node_of n.keeps)) };
+    ghost invariant = { λ n. IsAgreements n.params n.own n.hand × IsFor n.params n.keeps };
 }
 
 impl AgreeNode {
@@ -70,7 +70,7 @@ impl AgreeNode {
             params: *params,
             own,
             hand,
-            keeps: Keeps::new(alloc)?,
+            keeps: Keeps::new(alloc, params)?,
             stopped: false,
         })
     }
@@ -98,9 +98,9 @@ fn takes_frame<L: Ledger>(
     steps: &mut Steps<L>,
 ) -> Result<(), Memory>
     requires hand { IsAgreements directory.now.params own hand.now }
-    requires signed { AreSigned directory.now.params (node_of keeps.old) }
+    requires for_sizes { IsFor directory.now.params keeps.old }
     ensures step { OnOk result (at keeps.new out.new ≡ behind out.old (rules.agree_next {O = Op} (self_of directory.now hand.now own) (node_of keeps.old) (Heard from bytes.now))) }
-    ensures signed { OnOk result (AreSigned directory.now.params (node_of keeps.new)) }
+    ensures sizes { (p : Params) → IsFor p keeps.old → IsFor p keeps.new }
     ensures begins { take (length out.old) out.new ≡ out.old }
 {
     let Some(checked) = admitted(alloc, directory, Seat::Agree(own), from, bytes, steps)? else {
@@ -125,9 +125,9 @@ fn next<L: Ledger>(
     steps: &mut Steps<L>,
 ) -> Result<(), Memory>
     requires hand { IsAgreements directory.now.params own hand.now }
-    requires signed { AreSigned directory.now.params (node_of keeps.old) }
+    requires for_sizes { IsFor directory.now.params keeps.old }
     ensures step { OnOk result (at keeps.new out.new ≡ behind out.old (rules.agree_next (self_of directory.now hand.now own) (node_of keeps.old) (taken input.entry))) }
-    ensures signed { OnOk result (AreSigned directory.now.params (node_of keeps.new)) }
+    ensures sizes { (p : Params) → IsFor p keeps.old → IsFor p keeps.new }
     ensures begins { take (length out.old) out.new ≡ out.old }
 {
     match input {
@@ -151,10 +151,10 @@ fn takes<L: Ledger>(
     steps: &mut Steps<L>,
 ) -> Result<(), Memory>
     requires hand { IsAgreements directory.now.params own hand.now }
-    requires signed { AreSigned directory.now.params (node_of keeps.old) }
+    requires for_sizes { IsFor directory.now.params keeps.old }
     ensures kept { OnOk result (node_of keeps.new ≡ (rules.agree_next (self_of directory.now hand.now own) (node_of keeps.old) (taken input.entry)).0) }
     ensures sent { OnOk result (out.new ≡ out.old ++ (rules.agree_next (self_of directory.now hand.now own) (node_of keeps.old) (taken input.entry)).1) }
-    ensures signed { OnOk result (AreSigned directory.now.params (node_of keeps.new)) }
+    ensures sizes { (p : Params) → IsFor p keeps.old → IsFor p keeps.new }
     ensures err { OnErr result (out.new ≡ out.old) }
 {
     let len = out.sent().len();

@@ -1,7 +1,8 @@
 //! What an agreement node hears.
 
-ghost use Rattle.std.specs.Prelude.{◌≡◌, ℕ, false, OnOk, OnErr, IfOk, IsTrue};
+ghost use Rattle.std.specs.Prelude.{◌≡◌, ℕ, false, length, OnOk, OnErr, IfOk, IsTrue};
 ghost use Rattle.fw_base.specs.declared.seat.Seat.TheVariants.{Agree, Filter, Client};
+ghost use Rattle.fw_base.specs.declared.params.Params.{Params};
 ghost use Rattle.fw_base.specs.Sizes.{accepted};
 ghost use Rattle.fw_directory.specs.Directories.{PlainDirectory};
 ghost use Rattle.fw_hand.specs.Hands.{PlainHand};
@@ -9,12 +10,12 @@ ghost use Rattle.fw_frame.specs.Plain.{plain, plain_request};
 ghost use Rattle.fw_frame.specs.View.{viewed, viewed_request, viewed_answers};
 ghost use Rattle.fw_node.specs.Histories.{Out};
 ghost use Rattle.fw_rules.specs.Agree as agree;
-ghost use Rattle.fw_kept.specs.Kept.{self_of, node_of};
-ghost use Rattle.fw_agree.specs.Steps.{at, behind, behind_some, if_heard};
+ghost use Rattle.fw_kept.specs.Kept.{self_of, node_of, IsFor};
+ghost use Rattle.fw_agree.specs.Steps.{at, behind, behind_some, if_heard, HasDigest};
 
 use fw_act::{hears_proposal, hears_reply, hears_vote, remembers_request, resends};
 use fw_base::Seat;
-use fw_choose::{reply_of, reply_to};
+use fw_choose::reply_to;
 use fw_directory::Directory;
 use fw_frame::{Frame, Request};
 use fw_kept::Keeps;
@@ -32,6 +33,7 @@ fn hears_request(
     out: &mut Outbox,
 ) -> Result<(), Memory>
     ensures step { OnOk result ((hand : PlainHand) (own : ℕ) → let me = self_of directory.now hand own in let r = viewed_request (plain_request request.now) in at keeps.new out.new ≡ behind out.old (agree.hears_request me (node_of keeps.old) from r (agree.reply_to me (node_of keeps.old) r.client r.stamp))) }
+    ensures sizes { (p : Params) → IsFor p keeps.old → IsFor p keeps.new }
     ensures err { OnErr result (out.new ≡ out.old) }
 {
     match reply_to(directory, keeps, request.client, request.stamp) {
@@ -52,10 +54,10 @@ fn holds(
     out: &mut Outbox,
 ) -> Result<(), Memory>
     ensures step { OnOk result ((d : PlainDirectory) (hand : PlainHand) (own : ℕ) → at keeps.new out.new ≡ behind out.old (agree.hears_reply (self_of d hand own) (node_of keeps.old) (record { number = number; answers = viewed_answers client stamp body.now; values = values.now }))) }
+    ensures sizes { (p : Params) → IsFor p keeps.old → IsFor p keeps.new }
     ensures err { OnErr result (out.new ≡ out.old) }
 {
-    let held = reply_of(&keeps.held, number).is_some();
-    hears_reply(alloc, keeps, number, client, stamp, body, values, held, out)
+    hears_reply(alloc, keeps, number, client, stamp, body, values, out)
 }
 
 /// Takes a frame from a client. Whether it is one that is heard; any other changes nothing.
@@ -69,6 +71,7 @@ fn hears_client(
 ) -> Result<bool, Memory>
     ensures step { IfOk result (λ heard. (hand : PlainHand) (own : ℕ) → behind_some out.old (agree.hears (self_of directory.now hand own) (node_of keeps.old) (Client client) (viewed (plain frame.now))) ≡ if_heard heard (at keeps.new out.new)) }
     ensures ignored { IfOk result (λ heard. heard ≡ false → at keeps.new out.new ≡ at keeps.old out.old) }
+    ensures sizes { (p : Params) → IsFor p keeps.old → IsFor p keeps.new }
     ensures err { OnErr result (out.new ≡ out.old) }
 {
     match frame {
@@ -80,6 +83,16 @@ fn hears_client(
     }
 }
 
+/// A digest that a frame names.
+fn whole_digest(bytes: &[u8]) -> [u8; 32]
+    requires { length bytes.now ≡ 32 }
+    ensures { result ≡ bytes.now }
+{
+    let mut digest = [0; 32];
+    digest.copy_from_slice(bytes);
+    digest
+}
+
 /// Takes a frame from an agreement node. Whether it is one that is heard; any other changes nothing.
 fn hears_agreement(
     alloc: Global,
@@ -88,8 +101,10 @@ fn hears_agreement(
     frame: &Frame<'_>,
 ) -> Result<bool, Memory>
     requires sizes { IsTrue (accepted directory.now.params) }
+    requires digest { HasDigest (viewed (plain frame.now)) }
     ensures step { IfOk result (λ heard. (hand : PlainHand) (own i : ℕ) (out : Out) → behind_some out (agree.hears (self_of directory.now hand own) (node_of keeps.old) (Agree i) (viewed (plain frame.now))) ≡ if_heard heard (at keeps.new out)) }
     ensures ignored { IfOk result (λ heard. heard ≡ false → node_of keeps.new ≡ node_of keeps.old) }
+    ensures sizes { (p : Params) → IsFor p keeps.old → IsFor p keeps.new }
 {
     match frame {
         Frame::Propose {
@@ -109,7 +124,8 @@ fn hears_agreement(
             digest,
             sig,
         } => {
-            hears_vote(alloc, keeps, *phase, *view, *number, *agree, digest, sig)?;
+            let digest = whole_digest(digest);
+            hears_vote(alloc, keeps, *phase, *view, *number, *agree, &digest, sig)?;
             Ok(true)
         }
         _ => Ok(false),
@@ -125,6 +141,7 @@ fn hears_filter(
 ) -> Result<bool, Memory>
     ensures step { IfOk result (λ heard. (d : PlainDirectory) (hand : PlainHand) (own c : ℕ) → behind_some out.old (agree.hears (self_of d hand own) (node_of keeps.old) (Filter 0 c) (viewed (plain frame.now))) ≡ if_heard heard (at keeps.new out.new)) }
     ensures ignored { IfOk result (λ heard. heard ≡ false → at keeps.new out.new ≡ at keeps.old out.old) }
+    ensures sizes { (p : Params) → IsFor p keeps.old → IsFor p keeps.new }
     ensures err { OnErr result (out.new ≡ out.old) }
 {
     match frame {
@@ -153,8 +170,10 @@ pub(crate) fn hears(
     out: &mut Outbox,
 ) -> Result<bool, Memory>
     requires sizes { IsTrue (accepted directory.now.params) }
+    requires digest { HasDigest (viewed (plain frame.now)) }
     ensures step { IfOk result (λ heard. (hand : PlainHand) (own : ℕ) → behind_some out.old (agree.hears (self_of directory.now hand own) (node_of keeps.old) from (viewed (plain frame.now))) ≡ if_heard heard (at keeps.new out.new)) }
     ensures ignored { IfOk result (λ heard. heard ≡ false → at keeps.new out.new ≡ at keeps.old out.old) }
+    ensures sizes { (p : Params) → IsFor p keeps.old → IsFor p keeps.new }
     ensures err { OnErr result (out.new ≡ out.old) }
 {
     match from {

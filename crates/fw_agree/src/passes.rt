@@ -2,13 +2,15 @@
 
 ghost use Rattle.std.specs.Prelude.{◌≡◌, ◌≤◌, ◌<◌, ◌+◌, ℕ, List, length, map, drop, take, OnOk, IfOk, IfSome, IsTrue};
 ghost use Rattle.std.specs.Option.{option_map};
+ghost use Rattle.fw_base.specs.declared.params.Params.{Params};
 ghost use Rattle.fw_base.specs.Sizes.{accepted};
 ghost use Rattle.fw_hand.specs.Hands.{PlainHand};
 ghost use Rattle.fw_rules.specs.Agree as agree;
-ghost use Rattle.fw_kept.specs.Kept.{self_of, node_of, act_of, request_of};
-ghost use Rattle.fw_choose.specs.Acts.{IsSigned};
+ghost use Rattle.fw_kept.specs.Kept.{self_of, node_of, act_of, IsFor};
+ghost use Rattle.fw_kept.specs.Pieces.{request_of};
+ghost use Rattle.fw_choose.specs.Acts.{IsOpen};
 ghost use Rattle.fw_act.specs.Doing.{IsAgreements, IsDoable};
-ghost use Rattle.fw_agree.specs.Steps.{at, chooses, AreSigned};
+ghost use Rattle.fw_agree.specs.Steps.{at, chooses};
 
 use fw_act::performs;
 use fw_choose::{commits, goes_up, offers_request, pledges, prepares};
@@ -44,10 +46,10 @@ fn chosen(
     requires sizes { IsTrue (accepted directory.now.params) }
     requires first { 1 ≤ number }
     requires last { number ≤ directory.now.params.numbers }
-    requires signed { AreSigned directory.now.params (node_of keeps.now) }
+    requires for_sizes { IsFor directory.now.params keeps.now }
     ensures act { IfOk result (λ act. (hand : PlainHand) → option_map act_of act ≡ chooses pass (self_of directory.now hand own) (node_of keeps.now) number) }
     ensures doable { IfOk result (λ act. IfSome act (IsDoable directory.now.params)) }
-    ensures signed { IfOk result (λ act. IfSome act (IsSigned directory.now.params)) }
+    ensures open { IfOk result (λ act. IfSome act (IsOpen keeps.now)) }
 {
     match pass {
         Pass::Prepares => prepares(alloc, own, keeps, number),
@@ -69,10 +71,10 @@ fn does(
 ) -> Result<(), Memory>
     requires hand { IsAgreements directory.now.params own hand.now }
     requires doable { IfSome act (IsDoable directory.now.params) }
-    requires act { IfSome act (IsSigned directory.now.params) }
-    requires signed { AreSigned directory.now.params (node_of keeps.old) }
+    requires open { IfSome act (IsOpen keeps.old) }
+    requires for_sizes { IsFor directory.now.params keeps.old }
     ensures step { OnOk result (at keeps.new out.new ≡ agree.acted (self_of directory.now hand.now own) (at keeps.old out.old) (option_map act_of act)) }
-    ensures signed { OnOk result (AreSigned directory.now.params (node_of keeps.new)) }
+    ensures sizes { (p : Params) → IsFor p keeps.old → IsFor p keeps.new }
     ensures begins { take (length out.old) out.new ≡ out.old }
 {
     match act {
@@ -92,9 +94,9 @@ fn goes_over(
     out: &mut Outbox,
 ) -> Result<(), Memory>
     requires hand { IsAgreements directory.now.params own hand.now }
-    requires signed { AreSigned directory.now.params (node_of keeps.old) }
+    requires for_sizes { IsFor directory.now.params keeps.old }
     ensures step { OnOk result (let me = self_of directory.now hand.now own in at keeps.new out.new ≡ agree.for_each me (chooses pass me) (agree.numbers me) (at keeps.old out.old)) }
-    ensures signed { OnOk result (AreSigned directory.now.params (node_of keeps.new)) }
+    ensures sizes { (p : Params) → IsFor p keeps.old → IsFor p keeps.new }
     ensures begins { take (length out.old) out.new ≡ out.old }
 {
     for k in 0..directory.params().numbers {
@@ -116,7 +118,7 @@ fn offered(
     requires place { place < length keeps.now.requests }
     ensures act { IfOk result (λ act. (hand : PlainHand) (s : agree.Step (List ℕ)) → s.0 ≡ node_of keeps.now → let me = self_of directory.now hand own in let requests = map request_of keeps.now.requests in agree.for_each me (agree.offers_request me) (drop place requests) s ≡ agree.for_each me (agree.offers_request me) (drop (place + 1) requests) (agree.acted me s (option_map act_of act))) }
     ensures doable { IfOk result (λ act. IfSome act (IsDoable directory.now.params)) }
-    ensures signed { IfOk result (λ act. IfSome act (IsSigned directory.now.params)) }
+    ensures open { IfOk result (λ act. IfSome act (IsOpen keeps.now)) }
 {
     match keeps.requests.at(place) {
         Some(request) => offers_request(alloc, directory, own, keeps, request),
@@ -134,9 +136,9 @@ fn makes_offers(
     out: &mut Outbox,
 ) -> Result<(), Memory>
     requires hand { IsAgreements directory.now.params own hand.now }
-    requires signed { AreSigned directory.now.params (node_of keeps.old) }
+    requires for_sizes { IsFor directory.now.params keeps.old }
     ensures step { OnOk result (at keeps.new out.new ≡ agree.makes_offers (self_of directory.now hand.now own) (at keeps.old out.old)) }
-    ensures signed { OnOk result (AreSigned directory.now.params (node_of keeps.new)) }
+    ensures sizes { (p : Params) → IsFor p keeps.old → IsFor p keeps.new }
     ensures begins { take (length out.old) out.new ≡ out.old }
 {
     for place in 0..keeps.requests.len() {
@@ -156,9 +158,9 @@ pub(crate) fn passes(
     out: &mut Outbox,
 ) -> Result<(), Memory>
     requires hand { IsAgreements directory.now.params own hand.now }
-    requires signed { AreSigned directory.now.params (node_of keeps.old) }
+    requires for_sizes { IsFor directory.now.params keeps.old }
     ensures step { OnOk result (at keeps.new out.new ≡ agree.passes (self_of directory.now hand.now own) (at keeps.old out.old)) }
-    ensures signed { OnOk result (AreSigned directory.now.params (node_of keeps.new)) }
+    ensures sizes { (p : Params) → IsFor p keeps.old → IsFor p keeps.new }
     ensures begins { take (length out.old) out.new ≡ out.old }
 {
     makes_offers(alloc, directory, own, hand, keeps, out)?;

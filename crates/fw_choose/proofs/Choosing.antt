@@ -1,10 +1,13 @@
 -- The rule's choices, from what each look-up found.
-use Rattle.std.proofs.Common.{◌≡◌, ℕ, ◌+◌, ◌≤◌, List, [], ◌∷◌, Bool, true, false, ◌&&◌, not, Option, Some, None, refl, sym, ap, ◌∙◌, nat_eq, nat_lt, nat_le, map, arith}
+use Rattle.std.proofs.Common.{◌≡◌, ℕ, ◌+◌, ◌≤◌, List, [], ◌∷◌, Bool, true, false, ◌&&◌, not, Option, Some, None, refl, sym, ap, ◌∙◌, nat_eq, nat_lt, nat_le, map, inl, inr, arith}
 use Rattle.std.specs.Prelude.{is_some}
 use Rattle.std.specs.List.{find, list_any}
 use Rattle.std.specs.Option.{option_map}
-use Rattle.std.proofs.lemmas.Bool.{lt-ltb, eq-eqb}
+use Rattle.std.proofs.lemmas.Bool.{cases_Bool, lt-ltb, eq-eqb, eqb-true}
+use Rattle.std.proofs.lemmas.Option.{same_Some}
 use Rattle.fw_list.specs.Lists.{numbers_from}
+use Rattle.fw_base.specs.declared.params.Params.{Params}
+use Rattle.fw_trace.specs.Lists.{first_at}
 use Rattle.fw_frame.specs.View.{Request, Entry, Signer, Vote, Agreed}
 use Rattle.fw_directory.specs.Directories.{PlainDirectory}
 use Rattle.fw_hand.specs.Hands.{PlainHand}
@@ -15,8 +18,11 @@ use Rattle.fw_rules.specs.Signing.{entry_digest}
 use Rattle.fw_rules.specs.Choices.{first_some}
 use Rattle.fw_kept.specs.declared.owned.OwnedPropose.{OwnedPropose}
 use Rattle.fw_kept.specs.declared.keeps.Keeps.{Keeps}
-use Rattle.fw_kept.specs.Kept.{self_of, node_of, propose_of, entry_of, cast_of, agreed_of}
-use Rattle.fw_choose.proofs.Found.{found}
+use Rattle.fw_kept.specs.Kept.{self_of, node_of, cast_of}
+use Rattle.fw_kept.specs.Pieces.{propose_of, entry_of, agreed_of, reply_of}
+use Rattle.fw_kept.specs.Queued.{SettledNumbers, agreed_in, replied_in, next_up}
+use Rattle.fw_kept.specs.declared.owned.OwnedAgreed.{OwnedAgreed}
+use Rattle.fw_kept.proofs.Found.{found, found_at}
 
 -- ---- proposals
 
@@ -25,7 +31,7 @@ not_not true = refl
 not_not false = refl
 
 -- a request that is neither cast, nor agreed, nor answered
-pub waits : (d : PlainDirectory) (hand : PlainHand) (own : ℕ) (k : Keeps) (r : Request) (free : Bool) → list_any (λ c. nat_eq c.view 0 && agree.has_request r.client r.stamp c.entry) (map cast_of k.casts) ≡ false → list_any (λ a. agree.has_request r.client r.stamp a.entry) (map agreed_of k.committed) ≡ false → is_some (agree.reply_to (self_of d hand own) (node_of k) r.client r.stamp) ≡ not free → free ≡ agree.is_waiting (self_of d hand own) (node_of k) r
+pub waits : (d : PlainDirectory) (hand : PlainHand) (own : ℕ) (k : Keeps) (r : Request) (free : Bool) → list_any (λ c. nat_eq c.view 0 && agree.has_request r.client r.stamp c.entry) (map cast_of k.casts) ≡ false → list_any (λ a. agree.has_request r.client r.stamp a.entry) (map agreed_of k.settled.committed) ≡ false → is_some (agree.reply_to (self_of d hand own) (node_of k) r.client r.stamp) ≡ not free → free ≡ agree.is_waiting (self_of d hand own) (node_of k) r
 waits d hand own k r free cast agreed answered = rw cast (rw agreed (rw answered (sym (not_not free))))
 
 pub offers_none : {M : Type 0} (me : Self M) (x : Node) (r : Request) → x.own.active ≡ true → agree.is_primary me x ≡ false → None ≡ agree.offers_request me x r
@@ -82,13 +88,65 @@ commit_both v n seen signers e s one two = ap (λ o. agree.commit_with v n o (So
 pub commits_on : {M : Type 0} (me : Self M) (x : Node) (v n : ℕ) (vote : Vote) (act : Option agree.Act) → vote.phase ≡ 1 → vote.view ≡ v → vote.number ≡ n → act ≡ agree.commit_with v n (agree.seen_of me.means.hash x.seen vote.digest) (agree.vote_quorum me x 1 v n vote.digest) → act ≡ agree.commits_by me x v n vote
 commits_on me x v n vote act p w m is = rw (eq-eqb _ _ p) (rw (eq-eqb _ _ w) (rw (eq-eqb _ _ m) is))
 
+pub commits_shut : {M : Type 0} (me : Self M) (x : Node) (n : ℕ) → is_some (agree.agreed_at x n) ≡ true → None ≡ agree.commits me x n
+commits_shut me x n some = rw some refl
+
 pub commits_open : {M : Type 0} (me : Self M) (x : Node) (n : ℕ) (act : Option agree.Act) → is_some (agree.agreed_at x n) ≡ false → act ≡ first_some (agree.commits_in me x n) (numbers_from 0 me.means.params.views) → act ≡ agree.commits me x n
 commits_open me x n act none is = rw none is
 
 -- ---- what goes up
 
-pub up_not : {M : Type 0} (me : Self M) (x : Node) (n : ℕ) → (nat_eq n (x.up + 1) && nat_le n (agree.replied me x + me.means.params.pipe)) ≡ false → None ≡ agree.goes_up me x n
-up_not me x n test = rw test refl
+-- what is agreed at a number, as the rule sees it
+pub agreed_same : (committed : List OwnedAgreed) (n : ℕ) → option_map agreed_of (agreed_in committed n) ≡ first_at (λ a. Some (a.number, a)) (map agreed_of committed) n
+agreed_same committed n = found_at agreed_of (λ a. a.number) n committed
 
-pub up_if : {M : Type 0} (me : Self M) (x : Node) (n : ℕ) (o : Option Agreed) → (nat_eq n (x.up + 1) && nat_le n (agree.replied me x + me.means.params.pipe)) ≡ true → o ≡ agree.agreed_at x n → agree.up_of o ≡ agree.goes_up me x n
-up_if me x n o test is = rw test (ap agree.up_of is)
+-- whether a number goes up, by what has settled
+abbrev goes_if : SettledNumbers → Params → ℕ → Option Agreed → Option agree.Act
+goes_if s p n agreed = when (nat_eq n (s.up + 1) && nat_le n (agree.replied_up_to (map reply_of s.held) 0 (numbers_from 1 p.numbers) + p.pipe)) (agree.up_of agreed)
+
+here_not : (n : ℕ) (s : SettledNumbers) (near : Bool) (o : Option OwnedAgreed) → n ≡ s.up + 1 → nat_le (s.up + 1) (replied_in s + s.params.pipe) ≡ near → agreed_in s.committed (s.up + 1) ≡ o → (next_up s ≡ Some n → ⊥)
+    → None ≡ goes_if s s.params n (option_map agreed_of (agreed_in s.committed n))
+here_not n s false o same test at other = rw (same, test, eq-eqb (s.up + 1) (s.up + 1) refl) refl
+here_not n s true None same test at other = rw (same, test, eq-eqb (s.up + 1) (s.up + 1) refl, at) refl
+here_not n s true (Some a) same test at other =
+    let next : next_up s ≡ Some n = rw (same, at, test) refl in
+    absurd (other next)
+
+settled_not : (n : ℕ) (s : SettledNumbers) → (next_up s ≡ Some n → ⊥) → None ≡ goes_if s s.params n (option_map agreed_of (agreed_in s.committed n))
+settled_not n s other = elim (cases_Bool (nat_eq n (s.up + 1))) [
+  | inl here ↦ here_not n s (nat_le (s.up + 1) (replied_in s + s.params.pipe)) (agreed_in s.committed (s.up + 1)) (eqb-true _ _ here) refl refl other
+  | inr far ↦ rw far refl
+]
+
+-- a number that isn't the next stays
+pub up_not : (d : PlainDirectory) (hand : PlainHand) (own : ℕ) (k : Keeps) (n : ℕ) → d.params ≡ k.settled.params → (next_up k.settled ≡ Some n → ⊥) → None ≡ agree.goes_up (self_of d hand own) (node_of k) n
+up_not d hand own k n sizes other =
+    settled_not n k.settled other
+    ∙ ap (goes_if k.settled k.settled.params n) (agreed_same k.settled.committed n)
+    ∙ ap (λ (p : Params). goes_if k.settled p n (agree.agreed_at (node_of k) n)) (sym sizes)
+
+next_parts : (s : SettledNumbers) (n : ℕ) → next_up s ≡ Some n → (n ≡ s.up + 1) × (nat_le (s.up + 1) (replied_in s + s.params.pipe) ≡ true)
+next_parts s n next = elim (cases_Bool (is_some (agreed_in s.committed (s.up + 1)))) [
+  | inl some ↦ elim (cases_Bool (nat_le (s.up + 1) (replied_in s + s.params.pipe))) [
+    | inl near ↦
+        let e : Some (s.up + 1) ≡ Some n = rw (some, near) at next in
+        (sym (same_Some _ _ e), near)
+    | inr far ↦
+        let e : None ≡ Some n = rw (some, far) at next in
+        absurd (let no : ⊥ = cc in no)
+  ]
+  | inr none ↦
+      let e : None ≡ Some n = rw none at next in
+      absurd (let no : ⊥ = cc in no)
+]
+
+-- the next one goes up
+pub up_is : (d : PlainDirectory) (hand : PlainHand) (own : ℕ) (k : Keeps) (n : ℕ) (a : OwnedAgreed) → d.params ≡ k.settled.params → next_up k.settled ≡ Some n → Some a ≡ agreed_in k.settled.committed n → Some (agree.Up (agreed_of a)) ≡ agree.goes_up (self_of d hand own) (node_of k) n
+up_is d hand own k n a sizes next at =
+    let parts = next_parts k.settled n next in
+    let here : nat_eq n (k.settled.up + 1) ≡ true = eq-eqb n (k.settled.up + 1) parts.0 in
+    let near : nat_le n (replied_in k.settled + k.settled.params.pipe) ≡ true = rw parts.0 parts.1 in
+    let one : Some (agree.Up (agreed_of a)) ≡ goes_if k.settled k.settled.params n (option_map agreed_of (agreed_in k.settled.committed n)) = rw (here, near) (ap (λ o. agree.up_of (option_map agreed_of o)) at) in
+    one
+    ∙ ap (goes_if k.settled k.settled.params n) (agreed_same k.settled.committed n)
+    ∙ ap (λ (p : Params). goes_if k.settled p n (agree.agreed_at (node_of k) n)) (sym sizes)

@@ -1,15 +1,15 @@
-//! What was done at a number, and what is agreed there.
+//! What was done at a number, and what is agreed.
 
 ghost use Rattle.std.specs.Prelude.{◌≡◌, ◌&&◌, List, map, nat_eq, reverse, is_some, filter, max, if◌then◌else◌};
 ghost use Rattle.std.specs.List.{find, list_any};
 ghost use Rattle.std.specs.Option.{option_copied, option_map};
-ghost use Rattle.fw_trace.specs.Lists.{first_at};
 ghost use Rattle.fw_rules.specs.Agree as agree;
 ghost use Rattle.fw_rules.specs.Choices.{first_some};
-ghost use Rattle.fw_kept.specs.Kept.{entry_of, cast_of, pledge_of, agreed_of};
+ghost use Rattle.fw_kept.specs.Kept.{cast_of, pledge_of};
+ghost use Rattle.fw_kept.specs.Pieces.{entry_of, agreed_of};
 
 use crate::entries::has_request;
-use fw_kept::{Cast, OwnedAgreed, OwnedEntry, Pledge};
+use fw_kept::{Cast, OwnedAgreed, OwnedEntry, Pledge, Settled};
 use fw_list::Newest;
 
 /// The last of these at a number, in a view.
@@ -49,24 +49,6 @@ pub(crate) fn has_pledged(pledges: &Newest<Pledge>, view: u32, number: u32) -> b
     is_any_pledge(pledges.oldest_first(), view, number)
 }
 
-/// The last of these at a number.
-fn last_agreed(committed: &[OwnedAgreed], number: u32) -> Option<&OwnedAgreed>
-    ensures { option_copied result ≡ find (λ a. nat_eq a.number number) (reverse committed.now) }
-{
-    committed
-        .iter()
-        .rev()
-        .find(|agreed| agreed.number == number)
-}
-
-/// What is agreed at a number.
-pub(crate) fn agreed_at(committed: &Newest<OwnedAgreed>, number: u32) -> Option<&OwnedAgreed>
-    ensures found { option_copied result ≡ find (λ a. nat_eq a.number number) committed.now }
-    ensures is { option_map agreed_of (option_copied result) ≡ first_at (λ a. Some (a.number, a)) (map agreed_of committed.now) number }
-{
-    last_agreed(committed.oldest_first(), number)
-}
-
 /// Whether a request is in one of these, in a view.
 fn is_any_cast(casts: &[Cast], view: u32, client: u32, stamp: u32) -> bool
     ensures { result ≡ list_any (λ c. nat_eq c.view view && agree.has_request client stamp (entry_of c.entry)) (reverse casts.now) }
@@ -92,10 +74,10 @@ fn is_any_agreed(committed: &[OwnedAgreed], client: u32, stamp: u32) -> bool
 }
 
 /// Whether a client's stamp is in what is agreed.
-pub(crate) fn is_agreed(committed: &Newest<OwnedAgreed>, client: u32, stamp: u32) -> bool
-    ensures { result ≡ list_any (λ a. agree.has_request client stamp a.entry) (map agreed_of committed.now) }
+pub(crate) fn is_agreed(settled: &Settled, client: u32, stamp: u32) -> bool
+    ensures { result ≡ list_any (λ a. agree.has_request client stamp a.entry) (map agreed_of settled.now.committed) }
 {
-    is_any_agreed(committed.oldest_first(), client, stamp)
+    is_any_agreed(settled.committed(), client, stamp)
 }
 
 /// The greater of a number and of that of this, where it is in a view.

@@ -11,4 +11,4 @@ mod votes;
 
 pub use offers::{law_no_choice, offers_request};
 pub use passes::{commits, goes_up, pledges, prepares};
-pub use replies::{replied, reply_of, reply_to};
+pub use replies::reply_to;

@@ -6,8 +6,9 @@ ghost use Rattle.fw_directory.specs.Directories.{PlainDirectory};
 ghost use Rattle.fw_hand.specs.Hands.{PlainHand};
 ghost use Rattle.fw_rules.specs.Agree as agree;
 ghost use Rattle.fw_kept.specs.declared.keeps.Keeps as stored;
-ghost use Rattle.fw_kept.specs.Kept.{self_of, node_of, act_of, request_of};
-ghost use Rattle.fw_choose.specs.Acts.{number_of, IsSigned};
+ghost use Rattle.fw_kept.specs.Kept.{self_of, node_of, act_of};
+ghost use Rattle.fw_kept.specs.Pieces.{request_of};
+ghost use Rattle.fw_choose.specs.Acts.{number_of, IsSigned, IsOpen};
 
 use crate::done::{greatest_cast, is_agreed, is_cast};
 use crate::replies::reply_to;
@@ -30,7 +31,7 @@ fn is_waiting(directory: &Directory, keeps: &Keeps, request: &OwnedRequest) -> b
     if is_cast(&keeps.casts, 0, request.client, request.stamp) {
         return false;
     }
-    if is_agreed(&keeps.committed, request.client, request.stamp) {
+    if is_agreed(&keeps.settled, request.client, request.stamp) {
         return false;
     }
     reply_to(directory, keeps, request.client, request.stamp).is_none()
@@ -55,6 +56,7 @@ pub fn offers_request(
     ensures first { IfOk result (λ act. IfSome act (λ a. 1 ≤ number_of a)) }
     ensures last { IfOk result (λ act. IfSome act (λ a. number_of a ≤ directory.now.params.numbers)) }
     ensures signers { IfOk result (λ act. IfSome act (IsSigned directory.now.params)) }
+    ensures open { IfOk result (λ act. IfSome act (IsOpen keeps.now)) }
 {
     if !is_primary(own) {
         return Ok(None);

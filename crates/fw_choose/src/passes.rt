@@ -8,13 +8,13 @@ ghost use Rattle.fw_base.specs.Sizes.{quorum};
 ghost use Rattle.fw_directory.specs.Directories.{PlainDirectory};
 ghost use Rattle.fw_hand.specs.Hands.{PlainHand};
 ghost use Rattle.fw_rules.specs.Agree as agree;
-ghost use Rattle.fw_kept.specs.Kept.{self_of, node_of, act_of, entry_of, propose_of, vote_of};
-ghost use Rattle.fw_choose.specs.Acts.{number_of, IsSigned};
+ghost use Rattle.fw_kept.specs.Kept.{self_of, node_of, act_of, IsFor};
+ghost use Rattle.fw_kept.specs.Pieces.{entry_of, propose_of, vote_of};
+ghost use Rattle.fw_choose.specs.Acts.{number_of, IsSigned, IsOpen, IsCommit};
 
-use crate::done::{agreed_at, cast_at, has_pledged};
+use crate::done::{cast_at, has_pledged};
 use crate::entries::{digest_of, seen_of};
 use crate::offers::is_primary;
-use crate::replies::replied;
 use crate::votes::vote_quorum;
 use fw_directory::Directory;
 use fw_kept::{Act, Keeps, OwnedAgreed, OwnedEntry, OwnedPropose, OwnedVote, copy_signers};
@@ -36,6 +36,7 @@ pub fn prepares(alloc: Global, own: u32, keeps: &Keeps, number: u32) -> Result<O
     ensures act { IfOk result (λ act. (d : PlainDirectory) (hand : PlainHand) → option_map act_of act ≡ agree.prepares (self_of d hand own) (node_of keeps.now) number) }
     ensures number { IfOk result (λ act. IfSome act (λ a. number_of a ≡ number)) }
     ensures signers { (p : Params) → IfOk result (λ act. IfSome act (IsSigned p)) }
+    ensures open { IfOk result (λ act. IfSome act (IsOpen keeps.now)) }
 {
     if is_primary(own) {
         return Ok(None);
@@ -60,9 +61,11 @@ fn pledges_cast(
     number: u32,
     entry: &OwnedEntry,
 ) -> Result<Option<Act>, Memory>
+    requires { IsFor directory.now.params keeps.now }
     ensures act { IfOk result (λ act. (hand : PlainHand) (own : ℕ) → option_map act_of act ≡ agree.pledges_cast (self_of directory.now hand own) (node_of keeps.now) number (Some (entry_of entry.now))) }
     ensures number { IfOk result (λ act. IfSome act (λ a. number_of a ≡ number)) }
     ensures signers { IfOk result (λ act. IfSome act (IsSigned directory.now.params)) }
+    ensures open { IfOk result (λ act. IfSome act (IsOpen keeps.now)) }
 {
     let digest = digest_of(entry);
     match vote_quorum(alloc, directory, keeps, 0, 0, number, &digest)? {
@@ -85,9 +88,11 @@ pub fn pledges(
     keeps: &Keeps,
     number: u32,
 ) -> Result<Option<Act>, Memory>
+    requires { IsFor directory.now.params keeps.now }
     ensures act { IfOk result (λ act. (hand : PlainHand) (own : ℕ) → option_map act_of act ≡ agree.pledges (self_of directory.now hand own) (node_of keeps.now) number) }
     ensures number { IfOk result (λ act. IfSome act (λ a. number_of a ≡ number)) }
     ensures signers { IfOk result (λ act. IfSome act (IsSigned directory.now.params)) }
+    ensures open { IfOk result (λ act. IfSome act (IsOpen keeps.now)) }
 {
     if has_pledged(&keeps.pledges, 0, number) {
         return Ok(None);
@@ -107,18 +112,19 @@ fn commits_by(
     number: u32,
     vote: &OwnedVote,
 ) -> Result<Option<Act>, Memory>
+    requires { IsFor directory.now.params keeps.now }
     ensures act { IfOk result (λ act. (hand : PlainHand) (own : ℕ) → option_map act_of act ≡ agree.commits_by (self_of directory.now hand own) (node_of keeps.now) view number (vote_of vote.now)) }
     ensures number { IfOk result (λ act. IfSome act (λ a. number_of a ≡ number)) }
     ensures signers { IfOk result (λ act. IfSome act (IsSigned directory.now.params)) }
+    ensures commit { IfOk result (λ act. IfSome act IsCommit) }
 {
     if vote.phase != 1 || vote.view != view || vote.number != number {
         return Ok(None);
     }
-    let digest = vote.digest.items();
-    let Some(signers) = vote_quorum(alloc, directory, keeps, 1, view, number, digest)? else {
+    let Some(signers) = vote_quorum(alloc, directory, keeps, 1, view, number, &vote.digest)? else {
         return Ok(None);
     };
-    let Some(entry) = seen_of(keeps.seen.items(), digest) else {
+    let Some(entry) = seen_of(keeps.seen.items(), &vote.digest) else {
         return Ok(None);
     };
     let entry = entry.copy(alloc)?;
@@ -138,9 +144,11 @@ fn commits_in(
     view: u32,
     number: u32,
 ) -> Result<Option<Act>, Memory>
+    requires { IsFor directory.now.params keeps.now }
     ensures act { IfOk result (λ act. (hand : PlainHand) (own : ℕ) → option_map act_of act ≡ agree.commits_in (self_of directory.now hand own) (node_of keeps.now) number view) }
     ensures number { IfOk result (λ act. IfSome act (λ a. number_of a ≡ number)) }
     ensures signers { IfOk result (λ act. IfSome act (IsSigned directory.now.params)) }
+    ensures commit { IfOk result (λ act. IfSome act IsCommit) }
 {
     for vote in keeps.votes.items() {
         let act = commits_by(alloc, directory, keeps, view, number, vote)?;
@@ -158,11 +166,13 @@ pub fn commits(
     keeps: &Keeps,
     number: u32,
 ) -> Result<Option<Act>, Memory>
+    requires { IsFor directory.now.params keeps.now }
     ensures act { IfOk result (λ act. (hand : PlainHand) (own : ℕ) → option_map act_of act ≡ agree.commits (self_of directory.now hand own) (node_of keeps.now) number) }
     ensures number { IfOk result (λ act. IfSome act (λ a. number_of a ≡ number)) }
     ensures signers { IfOk result (λ act. IfSome act (IsSigned directory.now.params)) }
+    ensures open { IfOk result (λ act. IfSome act (IsOpen keeps.now)) }
 {
-    if agreed_at(&keeps.committed, number).is_some() {
+    if keeps.settled.agreed_at(number).is_some() {
         return Ok(None);
     }
     for view in 0..directory.params().views {
@@ -186,32 +196,28 @@ fn copy_agreed(alloc: Global, agreed: &OwnedAgreed) -> Result<OwnedAgreed, Memor
     })
 }
 
-/// Whether a number is the next to go up, and at most `pipe` above the replies.
-fn may_go_up(directory: &Directory, keeps: &Keeps, number: u32) -> bool
-    ensures { (hand : PlainHand) (own : ℕ) → result ≡ (nat_eq number (keeps.now.up + 1) && nat_le number (agree.replied (self_of directory.now hand own) (node_of keeps.now) + directory.now.params.pipe)) }
-{
-    if number as u64 != keeps.up as u64 + 1 {
-        return false;
-    }
-    number as u64 <= replied(directory, keeps) as u64 + directory.params().pipe as u64
-}
-
-/// What is agreed at a number, to go up, where the number is the next one and at most `pipe` above the replies. It is one of those
-/// that are kept.
+/// What is agreed at a number, to go up, where the number is the next one and at most `pipe` above the replies.
 pub fn goes_up(
     alloc: Global,
     directory: &Directory,
     keeps: &Keeps,
     number: u32,
 ) -> Result<Option<Act>, Memory>
+    requires { IsFor directory.now.params keeps.now }
     ensures act { IfOk result (λ act. (hand : PlainHand) (own : ℕ) → option_map act_of act ≡ agree.goes_up (self_of directory.now hand own) (node_of keeps.now) number) }
     ensures number { IfOk result (λ act. IfSome act (λ a. number_of a ≡ number)) }
-    ensures signers { All (λ a. length a.signers ≡ quorum directory.now.params) keeps.now.committed → IfOk result (λ act. IfSome act (IsSigned directory.now.params)) }
+    ensures signers { IfOk result (λ act. IfSome act (IsSigned directory.now.params)) }
+    ensures open { IfOk result (λ act. IfSome act (IsOpen keeps.now)) }
 {
-    if !may_go_up(directory, keeps, number) {
+    // (the sizes are those that are kept)
+    let _directory = directory;
+    let Some(next) = keeps.settled.next_up() else {
+        return Ok(None);
+    };
+    if next != number {
         return Ok(None);
     }
-    match agreed_at(&keeps.committed, number) {
+    match keeps.settled.agreed_at(number) {
         Some(agreed) => Ok(Some(Act::Up(copy_agreed(alloc, agreed)?))),
         None => Ok(None),
     }

@@ -7,35 +7,21 @@ ghost use Rattle.fw_hand.specs.Hands.{PlainHand};
 ghost use Rattle.fw_rules.specs.Agree as agree;
 ghost use Rattle.fw_rules.specs.Choices.{first_some};
 ghost use Rattle.fw_kept.specs.Kept as kept;
+ghost use Rattle.fw_kept.specs.Pieces as pieces;
 
 use fw_directory::Directory;
-use fw_kept::{Keeps, OwnedReply};
-use fw_list::Newest;
-
-/// The last of these that is of a number.
-fn last_of(held: &[OwnedReply], number: u32) -> Option<&OwnedReply>
-    ensures { option_copied result ≡ find (λ r. nat_eq r.number number) (reverse held.now) }
-{
-    held.iter().rev().find(|reply| reply.number == number)
-}
-
-/// The reply of a number, or none exactly where none is held.
-pub fn reply_of(held: &Newest<OwnedReply>, number: u32) -> Option<&OwnedReply>
-    ensures { option_map kept.reply_of (option_copied result) ≡ agree.reply_of (map kept.reply_of held.now) number }
-{
-    last_of(held.oldest_first(), number)
-}
+use fw_kept::{Keeps, OwnedReply, Settled};
 
 /// Whether a reply of a number answers a client's stamp.
 fn is_reply_to(reply: &OwnedReply, client: u32, stamp: u32, number: u32) -> bool
-    ensures { result ≡ (agree.is_for client stamp (kept.reply_of reply.now).answers && nat_eq reply.now.number number) }
+    ensures { result ≡ (agree.is_for client stamp (pieces.reply_of reply.now).answers && nat_eq reply.now.number number) }
 {
     reply.stamp != 0 && reply.client == client && reply.stamp == stamp && reply.number == number
 }
 
 /// The last of these that is of a number and answers a client's stamp.
 fn last_at(held: &[OwnedReply], client: u32, stamp: u32, number: u32) -> Option<&OwnedReply>
-    ensures { option_copied result ≡ find (λ r. agree.is_for client stamp (kept.reply_of r).answers && nat_eq r.number number) (reverse held.now) }
+    ensures { option_copied result ≡ find (λ r. agree.is_for client stamp (pieces.reply_of r).answers && nat_eq r.number number) (reverse held.now) }
 {
     held.iter()
         .rev()
@@ -43,10 +29,10 @@ fn last_at(held: &[OwnedReply], client: u32, stamp: u32, number: u32) -> Option<
 }
 
 /// The newest reply of a number that answers a client's stamp.
-fn reply_at(held: &Newest<OwnedReply>, client: u32, stamp: u32, number: u32) -> Option<&OwnedReply>
-    ensures { option_map kept.reply_of (option_copied result) ≡ first_some (agree.reply_if client stamp number) (map kept.reply_of held.now) }
+fn reply_at(settled: &Settled, client: u32, stamp: u32, number: u32) -> Option<&OwnedReply>
+    ensures { option_map pieces.reply_of (option_copied result) ≡ first_some (agree.reply_if client stamp number) (map pieces.reply_of settled.now.held) }
 {
-    last_at(held.oldest_first(), client, stamp, number)
+    last_at(settled.held(), client, stamp, number)
 }
 
 /// The reply of the least number that answers a client's stamp, or none exactly where none does.
@@ -56,26 +42,13 @@ pub fn reply_to<'a>(
     client: u32,
     stamp: u32,
 ) -> Option<&'a OwnedReply>
-    ensures { (hand : PlainHand) (own : ℕ) → option_map kept.reply_of (option_copied result) ≡ agree.reply_to (kept.self_of directory.now hand own) (kept.node_of keeps.now) client stamp }
+    ensures { (hand : PlainHand) (own : ℕ) → option_map pieces.reply_of (option_copied result) ≡ agree.reply_to (kept.self_of directory.now hand own) (kept.node_of keeps.now) client stamp }
 {
     for k in 0..directory.params().numbers {
-        let found = reply_at(&keeps.held, client, stamp, k + 1);
+        let found = reply_at(&keeps.settled, client, stamp, k + 1);
         if found.is_some() {
             return found;
         }
     }
     None
-}
-
-/// The greatest number such that the replies of 1 up to it are held.
-pub fn replied(directory: &Directory, keeps: &Keeps) -> u32
-    ensures { (hand : PlainHand) (own : ℕ) → result ≡ agree.replied (kept.self_of directory.now hand own) (kept.node_of keeps.now) }
-{
-    let numbers = directory.params().numbers;
-    for k in 0..numbers {
-        if reply_of(&keeps.held, k + 1).is_none() {
-            return k;
-        }
-    }
-    numbers
 }

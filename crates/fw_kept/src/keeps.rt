@@ -1,13 +1,14 @@
 //! What an agreement node keeps in view 0, and the acts that it chooses.
 
-ghost use Rattle.std.specs.Prelude.{◌≡◌, IfOk};
+ghost use Rattle.std.specs.Prelude.{◌≡◌, IfOk, IsTrue};
+ghost use Rattle.fw_base.specs.Sizes.{accepted};
 ghost use Rattle.fw_rules.specs.Agree.{new_node};
-ghost use Rattle.fw_kept.specs.Kept.{node_of};
+ghost use Rattle.fw_kept.specs.Kept.{node_of, IsFor};
 
 use crate::{
-    OwnedAgreed, OwnedEntry, OwnedProof, OwnedPropose, OwnedReply, OwnedRequest, OwnedSigners,
-    OwnedVote,
+    Known, OwnedAgreed, OwnedEntry, OwnedProof, OwnedPropose, OwnedRequest, OwnedSigners, Settled,
 };
+use fw_base::Params;
 use fw_list::{Bytes, Items, Memory, Newest};
 use std::alloc::Global;
 
@@ -27,41 +28,38 @@ pub struct Pledge {
     pub digest: Bytes,
 }
 
-/// What it keeps: what it heard, in order, but the replies that it holds, the newest first; what it did, the newest first; the votes
-/// that it knows, its own among them, and the entries that it has seen, in order; what is agreed, the newest first; and how many
-/// numbers have gone up.
+/// What it keeps: the requests and proposals that it heard, in order; what it did, the newest first; the votes that it knows and the
+/// entries that it has seen, in order; and the numbers that are agreed or answered.
 #[derive(Drop)]
 pub struct Keeps {
     pub requests: Items<OwnedRequest>,
     pub proposals: Items<OwnedPropose>,
-    pub held: Newest<OwnedReply>,
     pub casts: Newest<Cast>,
     pub pledges: Newest<Pledge>,
     pub proofs: Newest<OwnedProof>,
-    pub votes: Items<OwnedVote>,
+    pub votes: Known,
     pub seen: Items<OwnedEntry>,
-    pub committed: Newest<OwnedAgreed>,
-    pub up: u32,
+    pub settled: Settled,
 }
 
 impl Keeps {
     /// Nothing heard and nothing done; null is seen.
-    pub fn new(alloc: Global) -> Result<Keeps, Memory>
-        ensures { IfOk result (λ keeps. node_of keeps ≡ new_node) }
+    pub fn new(alloc: Global, params: &Params) -> Result<Keeps, Memory>
+        requires { IsTrue (accepted params.now) }
+        ensures new { IfOk result (λ keeps. node_of keeps ≡ new_node) }
+        ensures sizes { IfOk result (IsFor params.now) }
     {
         let mut seen = Items::new(alloc);
         seen.push(OwnedEntry::Null)?;
         Ok(Keeps {
             requests: Items::new(alloc),
             proposals: Items::new(alloc),
-            held: Newest::new(alloc),
             casts: Newest::new(alloc),
             pledges: Newest::new(alloc),
             proofs: Newest::new(alloc),
-            votes: Items::new(alloc),
+            votes: Known::new(alloc, params)?,
             seen,
-            committed: Newest::new(alloc),
-            up: 0,
+            settled: Settled::new(alloc, params)?,
         })
     }
 }

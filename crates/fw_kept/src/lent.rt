@@ -1,9 +1,10 @@
 //! Pieces copied from frames, copied again, and lent to frames.
 
-ghost use Rattle.std.specs.Prelude.{◌≡◌, map, IfOk};
+ghost use Rattle.std.specs.Prelude.{◌≡◌, map, length, IfOk};
 ghost use Rattle.fw_frame.specs.Plain.{plain_request, plain_entry, plain_signer};
 ghost use Rattle.fw_frame.specs.View.{viewed_request, viewed_entry, viewed_signer};
-ghost use Rattle.fw_kept.specs.Kept.{request_of, entry_of, signer_of};
+ghost use Rattle.fw_pbft.specs.Tallies.{seen_signer};
+ghost use Rattle.fw_kept.specs.Pieces.{request_of, entry_of, signer_of};
 
 use crate::{OwnedEntry, OwnedRequest, OwnedSigner, OwnedSigners};
 use fw_frame::{Entry, Request, Signer, Signers};
@@ -124,4 +125,19 @@ pub fn lent_signers(alloc: Global, signers: &[OwnedSigner]) -> Result<Signers<'_
         lent.push(signer.lent())?;
     }
     Ok(lent)
+}
+
+/// A frame's signers, copied.
+pub fn owned_signers(alloc: Global, signers: &[Signer<'_>]) -> Result<OwnedSigners, Memory>
+    ensures same { IfOk result (λ copy. map signer_of copy ≡ map seen_signer signers.now) }
+    ensures len { IfOk result (λ copy. length copy ≡ length signers.now) }
+{
+    let mut copy = OwnedSigners::new(alloc);
+    for signer in signers {
+        copy.push(OwnedSigner {
+            agree: signer.agree,
+            sig: Bytes::copy_of(alloc, signer.sig)?,
+        })?;
+    }
+    Ok(copy)
 }

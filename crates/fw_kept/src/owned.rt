@@ -44,7 +44,7 @@ pub struct OwnedVote {
     pub view: u32,
     pub number: u32,
     pub agree: u32,
-    pub digest: Bytes,
+    pub digest: [u8; 32],
     pub sig: Bytes,
 }
 

@@ -1,5 +1,5 @@
 -- What the one agreement node sends: agreed frames of what it committed, one for each number, and replies that it heard from filters.
-use Rattle.std.proofs.Common.{ℕ, zero, suc, ◌+◌, ◌*◌, ◌≡◌, ◌≤◌, ◌<◌, ◌⊎◌, inl, inr, Bool, true, false, cond, not, nat_eq, List, [], ◌∷◌, ◌++◌, map, refl, sym, ◌∙◌, ap, subst, Option, Some, None, is_some, arith}
+use Rattle.std.proofs.Common.{ℕ, zero, ◌+◌, ◌*◌, ◌≡◌, ◌≤◌, ◌⊎◌, inl, inr, Bool, true, false, cond, not, nat_eq, List, [], ◌∷◌, ◌++◌, map, refl, sym, ◌∙◌, ap, subst, Option, Some, None, is_some, arith}
 use Rattle.std.specs.Prelude.{option_and_then, filter}
 use Rattle.std.specs.List.{list_any}
 use Rattle.std.proofs.lemmas.Bool.{eqb-true}
@@ -16,29 +16,11 @@ use Rattle.fw_source.specs.Sources.{Hears, AllHeard, EverSent}
 use Rattle.fw_frame.specs.View.{Entry, Given, Request, Signer, Agreed, Reply, Frame, Asks, Proposes, Votes, Agrees, Replies}
 use Rattle.fw_means.specs.Means.{when}
 use Rattle.fw_rules.specs.Choices.{first_some, admitted}
-use Rattle.fw_rules.specs.Agree.{Node, Self, Step, Sends, Act, Offer, Prepare, Pledge_to, Commit, Up, performs, acted, for_each, to_others, numbers, agreed_at, offers_choice, offers_request, prepares_one, prepares, pledge_of, pledges_cast, pledges, commit_with, commits_by, commits_in, commits, up_of, goes_up, vote_quorum, seen_of, cast_at, passes, reply_of, reply_if, reply_at, reply_to, same_request, hears_request, hears_reply, hears, passes_after, agree_next, agree_role}
+use Rattle.fw_rules.specs.Agree.{Node, Self, Step, Sends, Act, Offer, Prepare, Pledge_to, Commit, Up, performs, acted, for_each, to_others, numbers, agreed_at, offers_choice, offers_request, prepares_one, prepares, pledge_of, pledges_cast, pledges, commit_with, commits_by, commits_in, commits, up_of, goes_up, vote_quorum, seen_of, cast_at, passes, reply_of, reply_to, same_request, hears_request, hears_reply, hears, passes_after, agree_next, agree_role}
 use Rattle.fw_source.proofs.Listed.{first_at-in}
 use Rattle.fw_lengths.proofs.Options.{when-some}
-
--- ---- lists
-
-pub In-numbers : (n first count : ℕ) → In n (numbers_from first count) → (first ≤ n) × (n < first + count)
-In-numbers n first zero i = absurd i
-In-numbers n first (suc count) (inl e) = (omega (arith, e), omega (arith, e))
-In-numbers n first (suc count) (inr i) = let rest = In-numbers n (first + 1) count i in (omega (arith, rest.0), omega (arith, rest.1))
-
-pub In-map : {A B : Type 0} (f : A → B) (xs : List A) (y : B) → In y (map f xs) → (x : A) × In x xs × (y ≡ f x)
-In-map f [] y i = absurd i
-In-map f (x ∷ xs) y (inl e) = (x, inl refl, e)
-In-map f (x ∷ xs) y (inr i) = let rest = In-map f xs y i in (rest.0, inr rest.1, rest.2)
-
-pub first_some-in : {A B : Type 0} (f : A → Option B) (xs : List A) (y : B) → first_some f xs ≡ Some y → (x : A) × In x xs × (f x ≡ Some y)
-first_some-in f [] y h = absurd (none-some y h)
-first_some-in {A = A} {B = B} f (x ∷ xs) y h = by (f x) refl h (first_some-in f xs y)
-  where
-    by : (o : Option B) → f x ≡ o → elim o [ Some z ↦ Some z | None ↦ first_some f xs ] ≡ Some y → (first_some f xs ≡ Some y → (z : A) × In z xs × (f z ≡ Some y)) → (z : A) × In z (x ∷ xs) × (f z ≡ Some y)
-    by (Some z) q k more = (x, inl refl, q ∙ k)
-    by None q k more = let rest = more k in (rest.0, inr rest.1, rest.2)
+use Rattle.fw_law_words.proofs.Lists.{In-map, In-numbers}
+use Rattle.fw_law_words.proofs.Roles.{held_reply}
 
 -- ---- what it committed
 
@@ -233,13 +215,6 @@ module _ {M : Type 0} (me : Self M) (own : me.own ≡ 0) (one : me.means.params.
     MayHear x None = Unit {0}
     MayHear x (Some s) = Hearing x s
 
-    reply_to-in : (x : Node) (client stamp : ℕ) (r : Reply) → reply_to me x client stamp ≡ Some r → In r x.heard.held
-    reply_to-in x client stamp r e =
-        let n = first_some-in (reply_at x client stamp) (numbers me) r e in
-        let held = first_some-in (reply_if client stamp n.0) x.heard.held r n.2 in
-        let same : held.0 ≡ r = same_Some held.0 r ((when-some _ (Some held.0) r held.2).1) in
-        subst (λ (y : Reply). In y x.heard.held) same held.1
-
     request-is : (x : Node) (from : Seat) (r : Request) (o : Option Reply) → ((y : Reply) → o ≡ Some y → In y x.heard.held) → HeldHeard x → Hearing x (hears_request me x from r o)
     request-is x from r (Some reply) inside h = record {
       committed = refl;
@@ -268,7 +243,7 @@ module _ {M : Type 0} (me : Self M) (own : me.own ≡ 0) (one : me.means.params.
         }
 
     hears-is : (x : Node) (from : Seat) (m : M) (frame : Frame) → K from m → me.means.read m ≡ Some frame → HeldHeard x → MayHear x (hears me x from frame)
-    hears-is x (Client c) m (Asks r) k e h = request-is x (Client c) r (reply_to me x r.client r.stamp) (λ y q. reply_to-in x r.client r.stamp y q) h
+    hears-is x (Client c) m (Asks r) k e h = request-is x (Client c) r (reply_to me x r.client r.stamp) (λ y q. held_reply me x r.client r.stamp y q) h
     hears-is x (Agree i) m (Proposes q) k e h = record { committed = refl; held = h; outs = λ o i. absurd i }
     hears-is x (Agree i) m (Votes v) k e h = record { committed = refl; held = h; outs = λ o i. absurd i }
     hears-is x (Filter zero c) m (Replies r) k e h = reply-is x r (record { column = c; message = m; heard = k; read = e }) h

@@ -36,8 +36,9 @@ use Rattle.fw_law_exec.proofs.Telling.{ExecOut, executor_sends}
 use Rattle.fw_law_filter.specs.Heard.{AreApart}
 use Rattle.fw_law_filter.proofs.Holding.{or_false, false_or}
 use Rattle.fw_law_filter.proofs.Sending.{FilterOut, filter_sends}
-use Rattle.fw_law_honest.proofs.Agreeing.{In-map}
-use Rattle.fw_law_honest.proofs.Speaking.{agreed-heard, FromAbove, replied-heard, FromExec, shared-heard, Combines, combines}
+use Rattle.fw_law_words.proofs.Lists.{In-map, In-take}
+use Rattle.fw_law_words.proofs.Roles.{Combines, combines}
+use Rattle.fw_law_honest.proofs.Speaking.{agreed-heard, FromAbove, replied-heard, FromExec, shared-heard}
 use Rattle.fw_law_honest.proofs.OneList.{Events, pool_of, inputs, means, AgreedIn, at_seat, heard, ever_sent, longer}
 use Rattle.fw_law_honest.proofs.Values.{values_on, AreValues, joined-values}
 use Rattle.fw_law_honest.proofs.Told.{IsTold, one_told, digest_of, answers_of, share_by, Certified, certificate-is, share-read}
@@ -74,12 +75,6 @@ taken_apart : (k : ℕ) (ss : List (shares.Share Valued)) → AreApart ss → Ar
 taken_apart zero ss a = tt
 taken_apart (suc k) [] a = tt
 taken_apart (suc k) (s ∷ ss) a = (taken_share k ss s.number s.exec a.0, taken_apart k ss a.1)
-
-In-take : {A : Type 0} (k : ℕ) (xs : List A) (x : A) → In x (take k xs) → In x xs
-In-take zero xs x i = absurd i
-In-take (suc k) [] x i = absurd i
-In-take (suc k) (y ∷ xs) x (inl e) = inl e
-In-take (suc k) (y ∷ xs) x (inr i) = inr (In-take k xs x i)
 
 -- the points of shares of one number
 abbrev pointed : List (shares.Share Valued) → List (ℕ × List ℕ)

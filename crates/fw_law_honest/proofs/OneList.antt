@@ -33,7 +33,7 @@ use Rattle.fw_law_honest.proofs.Agreeing.{SentDown, AgreeOut, agree_sent}
 use Rattle.fw_law_exec.proofs.Telling.{ExecOut, executor_sends}
 use Rattle.fw_law_filter.proofs.Sending.{FilterOut, filter_sends}
 use Rattle.fw_law_client.proofs.Asked.{client_sends}
-use Rattle.fw_law_honest.proofs.Speaking.{combines}
+use Rattle.fw_law_words.proofs.Roles.{combines}
 
 abbrev pub Events : Type 0
 Events = List (Event (List ℕ) Op)

@@ -15,7 +15,6 @@ use Rattle.fw_seal.specs.Seal.{masked, block_of, tag_of, sealed}
 use Rattle.fw_seal.proofs.Blocks.{length-block_of}
 use Rattle.fw_seal.proofs.Bodies.{length-masked}
 use Rattle.fw_op.specs.declared.op.Op.{Op}
-use Rattle.fw_op.specs.declared.op.Op.TheVariants as ops
 use Rattle.fw_op.specs.declared.reply.Reply.{Reply}
 use Rattle.fw_op.specs.declared.reply.Reply.TheVariants as replies
 use Rattle.fw_op.specs.declared.start.Start.{Start}
@@ -35,6 +34,7 @@ use Rattle.fw_ref.specs.Bodies.{key_of, op_of, request_opened, entry_opened, bod
 use Rattle.fw_ref.specs.Certificates.{keys_of, certificate, certificates}
 use Rattle.fw_ref.specs.Ranges.{is_stored, is_tellable}
 use Rattle.fw_ref.proofs.Kept.{kept}
+use Rattle.fw_ref.proofs.Listing.{few_clients}
 use Rattle.fw_ref.proofs.Fitting.{opened-fits, tellable-new, tellable-set}
 use Rattle.fw_ref.proofs.Growing.{few-step, can_start}
 use Rattle.fw_lengths.proofs.Said.{said-applied}
@@ -96,9 +96,6 @@ pub record Keeps (k : ℕ) (m : Reference) : Type 0 where
   pub stored : list_all is_stored m.records ≡ true
   pub tellable : list_all is_tellable m.last ≡ true
   pub few : length m.records ≤ 256 + k
-
-few_clients : (p : Params) → IsTrue (accepted p) → p.clients ≤ 8
-few_clients p sizes = grind arith
 
 pub start-keeps : (p : Params) (starts : List Start) → IsTrue (accepted p) → IsTrue (starts_fit p.clients starts) → Keeps 0 (at_start starts)
 start-keeps p starts sizes fit =

@@ -1,7 +1,6 @@
 -- What the speeches of the roles read of messages.
-use Rattle.std.proofs.Common.{ℕ, ◌+◌, ◌≡◌, ◌≤◌, Bool, true, false, nat_eq, nat_le, List, length, Option, Some, None, refl, sym}
-use Rattle.std.specs.Prelude.{option_and_then, filter}
-use Rattle.std.proofs.lemmas.Bool.{eqb-true, leb-true, and_parts}
+use Rattle.std.proofs.Common.{ℕ, ◌≡◌, true, List, Option, Some, refl, sym}
+use Rattle.std.specs.Prelude.{option_and_then}
 use Rattle.std.proofs.lemmas.Option.{none-some, same_Some}
 use Rattle.fw_base.specs.declared.seat.Seat.{Seat}
 use Rattle.fw_base.specs.declared.seat.Seat.TheVariants.{Agree, Exec, Filter, Client}
@@ -12,17 +11,13 @@ use Rattle.fw_trace.specs.declared.Told.{Told}
 use Rattle.fw_trace.specs.declared.Share as shares
 use Rattle.fw_trace.specs.Lists.{In}
 use Rattle.fw_frame.specs.View.{Entry, Given, Share, Reply, Frame, Agrees, Shares, Replies}
-use Rattle.fw_means.specs.Means.{when}
 use Rattle.fw_rules.specs.Means.{Means, Bodies}
 use Rattle.fw_rules.specs.Choices.{admitted}
-use Rattle.fw_rules.specs.Roles.{told_one, told_in, client_speech, agreed_frame, executor_speech, Valued, replied_number, share_from, joined, is_equal, combined_with, combined_of, filter_speech}
+use Rattle.fw_rules.specs.Roles.{told_one, told_in, client_speech, agreed_frame, executor_speech, Valued, replied_number, share_from, filter_speech}
 use Rattle.fw_rules.specs.World as world
 use Rattle.fw_lengths.proofs.Options.{when-some}
-use Rattle.fw_law_honest.proofs.Agreeing.{first_some-in}
-
-pub when-true : {A : Type 0} (b : Bool) (o : Option A) (x : A) → when b o ≡ Some x → b ≡ true
-when-true true o x e = refl
-when-true false o x e = absurd (none-some x e)
+use Rattle.fw_law_words.proofs.Firsts.{first_some-in}
+use Rattle.fw_law_words.proofs.Roles as words
 
 -- a frame that is admitted, and what is made of it
 pub record Admits {M B : Type 0} (k : Means M) (f : Frame → Option B) (m : M) (y : B) : Type 0 where
@@ -31,11 +26,9 @@ pub record Admits {M B : Type 0} (k : Means M) (f : Frame → Option B) (m : M) 
   pub gives : f frame ≡ Some y
 
 pub admits : {M B : Type 0} (k : Means M) (seat from : Seat) (m : M) (f : Frame → Option B) (y : B) → option_and_then f (admitted k seat from m) ≡ Some y → Admits k f m y
-admits {M = M} {B = B} k seat from m f y e = by (admitted k seat from m) refl e
-  where
-    by : (o : Option Frame) → admitted k seat from m ≡ o → option_and_then f o ≡ Some y → Admits k f m y
-    by None q h = absurd (none-some y h)
-    by (Some v) q h = record { frame = v; read = (when-some _ (k.read m) v q).1; gives = h }
+admits k seat from m f y e =
+    let a = words.admits k seat from m f y e in
+    record { frame = a.frame; read = (when-some _ (k.read m) a.frame a.read).1; gives = a.gives }
 
 -- what an executor takes for agreed is so
 exec_agreed : (from : Seat) (v : Frame) (a : ℕ × Entry) → agreed_frame from v ≡ Some a → world.agreed_frame v ≡ Some a
@@ -64,7 +57,7 @@ from_filter k seat _ m _ n up read e = absurd (none-some n e)
 pub replied-heard : {M : Type 0} (k : Means M) (r c : ℕ) (from : Seat) (m : M) (n : ℕ) → (filter_speech k r c).replied from m ≡ Some n → FromAbove k (Filter r c) from m
 replied-heard k r c from m n e =
     let x = admits k (Filter r c) from m (replied_number from) n ((when-some _ _ n e).1) in
-    from_filter k (Filter r c) from m x.frame n (when-true _ _ n e) x.read x.gives
+    from_filter k (Filter r c) from m x.frame n ((when-some _ _ n e).0) x.read x.gives
 
 -- a share from the executor that it names
 pub record FromExec {M : Type 0} (k : Means M) (from : Seat) (m : M) (s : shares.Share Valued) : Type 0 where
@@ -88,28 +81,6 @@ pub shared-heard : {M : Type 0} (k : Means M) (r c : ℕ) (from : Seat) (m : M) 
 shared-heard k r c from m s e =
     let x = admits k (Filter r c) from m (share_from from) s e in
     from_exec k from m x.frame s x.read x.gives
-
--- the reply that is made of shares
-pub record Combines {M : Type 0} (k : Means M) (n : ℕ) (kept : List (shares.Share Valued)) (m : M) : Type 0 where
-  pub share : shares.Share Valued
-  pub there : In share kept
-  pub number : share.number ≡ n
-  pub enough : k.params.g + 1 ≤ length (filter (is_equal n share) kept)
-  pub is : m ≡ k.write (Replies (joined k n share.value.0 (filter (is_equal n share) kept)))
-
-pub combines : {M : Type 0} (k : Means M) (n : ℕ) (kept : List (shares.Share Valued)) (m : M) → combined_of k n kept ≡ Some m → Combines k n kept m
-combines k n kept m e =
-    let s = first_some-in (combined_with k n kept) kept m e in
-    let equal = filter (is_equal n s.0) kept in
-    let made = k.write (Replies (joined k n s.0.value.0 equal)) in
-    let both = and_parts (nat_eq s.0.number n) (nat_le (k.params.g + 1) (length equal)) (when-true _ (Some made) m s.2) in
-    record {
-      share = s.0;
-      there = s.1;
-      number = eqb-true s.0.number n both.0;
-      enough = leb-true (k.params.g + 1) (length equal) both.1;
-      is = sym (same_Some made m ((when-some _ (Some made) m s.2).1));
-    }
 
 -- what a client is told, by an answer of a reply from an agreement node
 pub record FromNode {M : Type 0} (k : Means M) (b : Bodies) (c : ℕ) (from : Seat) (m : M) (t : Told said.Reply) : Type 0 where

@@ -38,7 +38,7 @@ use Rattle.fw_law_honest.proofs.Frames.{Reads, valid_reads, kind_in, reply_kind,
 use Rattle.fw_lengths.proofs.Options.{when-some}
 use Rattle.fw_law_honest.proofs.Agreeing.{SentDown, AgreeOut}
 use Rattle.fw_law_client.proofs.Accepted.{client_accepts}
-use Rattle.fw_law_honest.proofs.Speaking.{when-true, FromNode, told-heard}
+use Rattle.fw_law_honest.proofs.Speaking.{FromNode, told-heard}
 use Rattle.fw_law_honest.proofs.OneList.{Events, pool_of, inputs, means, node_of, state_of, at_seat, heard, ever_sent, from_node, first_node, one_fault_less}
 use Rattle.fw_law_honest.proofs.Replying.{Fits}
 use Rattle.fw_law_honest.proofs.Told.{IsTold, digest_of, answers_of, Certified, certificate-read}
@@ -66,7 +66,7 @@ told_again deal n c a g t fits there tells = by a.stamp refl there
     at stamp same from is =
         let told : told_one (bodies_of (hand_of deal (Client c))) c n (record { client = a.client; stamp = stamp; body = a.body.bytes }) ≡ Some t =
         subst (λ (x : Given). told_one (bodies_of (hand_of deal (Client c))) c n x ≡ Some t) is tells in
-        let own : a.client ≡ c = eqb-true a.client c (when-true (nat_eq a.client c) (option_map (λ r. record { number = n; stamp = stamp; reply = r }) ((bodies_of (hand_of deal (Client c))).open_reply c n a.body.bytes)) t told) in
+        let own : a.client ≡ c = eqb-true a.client c ((when-some (nat_eq a.client c) (option_map (λ r. record { number = n; stamp = stamp; reply = r }) ((bodies_of (hand_of deal (Client c))).open_reply c n a.body.bytes)) t told).0) in
         let opened_is = opens_again deal n c a fits (omega (arith, same, from)) own in
         let value : Some (record { number = n; stamp = stamp; reply = a.reply }) ≡ Some t =
         sym (ap (option_map (λ r. record { number = n; stamp = stamp; reply = r })) opened_is) ∙ (when-some (nat_eq a.client c) (option_map (λ r. record { number = n; stamp = stamp; reply = r }) ((bodies_of (hand_of deal (Client c))).open_reply c n a.body.bytes)) t told).1 in

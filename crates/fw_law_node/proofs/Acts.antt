@@ -1,5 +1,5 @@
 -- What is known where a pass chooses an act, and that what each act keeps, all passes keep.
-use Rattle.std.proofs.Common.{ℕ, ◌+◌, ◌<◌, ◌≤◌, ◌≡◌, ◌⊎◌, inl, inr, true, false, List, [], ◌∷◌, arith, refl, sym, ◌∙◌, ap, subst, Option, Some, None, filter_map}
+use Rattle.std.proofs.Common.{ℕ, zero, suc, ◌+◌, ◌<◌, ◌≤◌, ◌≡◌, ◌⊎◌, inl, inr, true, false, List, [], ◌∷◌, arith, refl, sym, ◌∙◌, ap, subst, Option, Some, None, filter_map}
 use Rattle.std.proofs.lemmas.Bool.{and_parts, not-true, or_cases, ltb-true, leb-true, eqb-true}
 use Rattle.std.proofs.lemmas.Option.{none-some, same_Some}
 use Rattle.fw_list.specs.Lists.{numbers_from}
@@ -10,7 +10,9 @@ use Rattle.fw_rules.specs.Signing.{entry_digest}
 use Rattle.fw_rules.specs.Agree.{Self, Node, Step, Act, Offer, Prepare, Pledge_to, Commit, Up, performs, acted, for_each, chosen, makes_offers, casts_votes, commits_and_sends, enough, nodes, numbers, offers_choice, offers_request, is_primary, is_waiting, top, choice, cast_at, next_number, prepares, prepares_one, may_prepare, pledges, pledges_cast, pledge_of, pledge_at, vote_quorum, commits, commits_in, commits_by, commit_with, seen_of, agreed_at, goes_up, up_of}
 use Rattle.fw_views.specs.Views.{Turn, Adopt, Start, Make, turns, turned, single, changes_view, passes, adopts, adopts_at, adopts_one, joins, joins_at, makes, make_of, change_of, views_down}
 use Rattle.fw_law_node.specs.Facts.{IsNumber}
-use Rattle.fw_law_node.proofs.Words.{when-some, first_some-in, is_some-none, In-numbers, In-views_down}
+use Rattle.fw_law_words.proofs.Tests.{when-some, is_some-none}
+use Rattle.fw_law_words.proofs.Firsts.{first_some-in}
+use Rattle.fw_law_words.proofs.Lists.{In-numbers}
 
 -- ---- what is known of an act that is chosen
 
@@ -80,6 +82,11 @@ along_turn me x a b e m = subst (MayTurn me x) (same_Some a b e) m
 
 along : {M : Type 0} (me : Self M) (x : Node) (a b : Act) → Some a ≡ Some b → MayAct me x a → MayAct me x b
 along me x a b e m = subst (MayAct me x) (same_Some a b e) m
+
+In-views_down : (v views : ℕ) → In v (views_down views) → v < views
+In-views_down v zero i = absurd i
+In-views_down v (suc k) (inl e) = omega arith
+In-views_down v (suc k) (inr i) = let r = In-views_down v k i in omega arith
 
 In-number : {M : Type 0} (me : Self M) (n : ℕ) → In n (numbers me) → IsNumber me.means.params n
 In-number me n i = let r = In-numbers n 1 me.means.params.numbers i in (r.0, omega arith)

@@ -1,5 +1,5 @@
 -- Each new view that a node adopts it has heard or made, and each number is committed once, by a quorum.
-use Rattle.std.proofs.Common.{ℕ, zero, suc, ◌≡◌, ◌⊎◌, inl, inr, Bool, true, false, cond, nat_eq, List, [], ◌∷◌, take, refl, sym, ◌∙◌, ap, subst, Option, Some, None, filter_map}
+use Rattle.std.proofs.Common.{ℕ, ◌≡◌, ◌⊎◌, inl, inr, Bool, true, false, cond, nat_eq, List, take, refl, sym, ◌∙◌, ap, subst, Option, Some, None, filter_map}
 use Rattle.std.proofs.lemmas.Bool.{eqb-true}
 use Rattle.std.proofs.lemmas.Option.{none-some, same_Some}
 use Rattle.fw_base.specs.declared.params.Params.{Params}
@@ -14,19 +14,14 @@ use Rattle.fw_law_node.specs.Once.{node_after}
 use Rattle.fw_law_node.specs.Begun.{IsRemembered, IsMade, AreBegun, AreCommitted, agreed_place}
 use Rattle.fw_law_node.specs.Facts.{AreQuorum, signed_by}
 use Rattle.fw_law_node.specs.Ranges.{IsPlace}
-use Rattle.fw_law_node.proofs.Words.{when-some}
+use Rattle.fw_law_words.proofs.Tests.{when-some}
+use Rattle.fw_law_words.proofs.Lists.{In-take}
 use Rattle.fw_law_node.proofs.Acts.{MayTurn, MayAct}
 use Rattle.fw_law_node.proofs.Best.{In-filter_map}
 use Rattle.fw_law_node.proofs.Quorums.{enough-quorum, vote_quorum-is, change_of-is}
 use Rattle.fw_law_node.proofs.Nodes.{HearsMore, node_always}
 
 -- ---- new views
-
-In-take : {A : Type 0} (k : ℕ) (xs : List A) (x : A) → In x (take k xs) → In x xs
-In-take zero xs x i = absurd i
-In-take (suc k) [] x i = absurd i
-In-take (suc k) (y ∷ xs) x (inl e) = inl e
-In-take (suc k) (y ∷ xs) x (inr i) = inr (In-take k xs x i)
 
 -- where more is remembered and done
 still_begun : (p : Params) (node : ℕ) (x y : Node) (a : Adopted) → ((n : NewView) → In n x.heard.new_views → In n y.heard.new_views) → ((c : Change) → In c x.heard.changes → In c y.heard.changes) → ((c : Change) → In c x.own.moves → In c y.own.moves) → IsRemembered x a ⊎ IsMade p node x a → IsRemembered y a ⊎ IsMade p node y a

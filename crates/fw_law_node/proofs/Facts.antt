@@ -14,7 +14,9 @@ use Rattle.fw_rules.specs.Agree.{Self, Own, Node, Cast, Pledge, Adopted, Act, Of
 use Rattle.fw_views.specs.Views.{Turn, Adopt, Start, Make, turns, own_change}
 use Rattle.fw_law_node.specs.Once.{own_after}
 use Rattle.fw_law_node.specs.Facts.{IsNumber, HasCast, HasProof, FollowsNewView, HasProofSince, IsBegun, KeepsTo}
-use Rattle.fw_law_node.proofs.Words.{when-some, first_some-in, numbers-In}
+use Rattle.fw_law_words.proofs.Tests.{when-some}
+use Rattle.fw_law_words.proofs.Firsts.{first_some-in}
+use Rattle.fw_law_words.proofs.Lists.{numbers-In}
 use Rattle.fw_law_node.proofs.Acts.{MayTurn, MayAct}
 use Rattle.fw_law_node.proofs.Own.{kept_always}
 use Rattle.fw_law_node.proofs.Best.{best_of-is, best_of-since, filter_map-In}

@@ -6,9 +6,10 @@ use Rattle.std.proofs.lemmas.Option.{same_Some}
 use Rattle.fw_base.specs.Sizes.{primary}
 use Rattle.fw_trace.specs.Lists.{In}
 use Rattle.fw_source.proofs.Listed.{first_at-in}
-use Rattle.fw_frame.specs.View.{Entry, Agreed, Reply}
-use Rattle.fw_rules.specs.Agree.{Self, Node, Cast, Pledge, cast_at, cast_if, pledge_at, pledge_if, is_primary, agreed_at, numbers, reply_to, reply_at, reply_if}
-use Rattle.fw_law_node.proofs.Words.{first_some-in, when-some}
+use Rattle.fw_frame.specs.View.{Entry, Agreed}
+use Rattle.fw_rules.specs.Agree.{Self, Node, Cast, Pledge, cast_at, cast_if, pledge_at, pledge_if, is_primary, agreed_at}
+use Rattle.fw_law_words.proofs.Tests.{when-some}
+use Rattle.fw_law_words.proofs.Firsts.{first_some-in}
 
 pub lead_of : {M : Type 0} (me : Self M) (x : Node) → is_primary me x ≡ true → primary me.means.params x.own.view ≡ me.own
 lead_of me x e = sym (eqb-true _ _ e)
@@ -18,13 +19,6 @@ agreed_in x n a e =
     let t = first_at-in (λ (c : Agreed). Some (c.number, c)) x.committed n a e in
     let same : t.item ≡ a = ap (λ (z : ℕ × Agreed). z.1) (same_Some (t.item.number, t.item) (n, a) t.read) in
     subst (λ (z : Agreed). In z x.committed) same t.inside
-
-pub held_reply : {M : Type 0} (me : Self M) (x : Node) (c s : ℕ) (reply : Reply) → reply_to me x c s ≡ Some reply → In reply x.heard.held
-held_reply me x c s reply e =
-    let n = first_some-in (reply_at x c s) (numbers me) reply e in
-    let r = first_some-in (reply_if c s n.0) x.heard.held reply n.2 in
-    let w = when-some _ _ reply r.2 in
-    subst (λ (z : Reply). In z x.heard.held) (same_Some _ _ w.1) r.1
 
 pub cast_in : (x : Node) (m : ℕ) (entry : Entry) → cast_at x x.own.view m ≡ Some entry → In (record { view = x.own.view; number = m; entry = entry }) x.own.casts
 cast_in x m entry e =

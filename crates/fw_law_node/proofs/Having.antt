@@ -12,13 +12,15 @@ use Rattle.fw_base.specs.Sizes.{primary, quorum}
 use Rattle.fw_text.specs.Texts.{Text, Voted, Hash}
 use Rattle.fw_trace.specs.Lists.{In}
 use Rattle.fw_frame.specs.Parts.{Part, Piece, Signed, Unsigned, pieces, request_piece, entry_piece, vote_piece, signer_pieces, signer_piece, proof_pieces, change_pieces}
-use Rattle.fw_frame.specs.View.{Request, Entry, Signer, Proof, Change, NewView, Vote, Agreed, Reply, Frame, Proposes, Votes, Begins, Agrees, Replies, plain_of, plain_request_of, plain_entry_of, plain_signer_of, plain_proof_of, plain_change_of}
+use Rattle.fw_frame.specs.View.{Entry, Signer, Proof, Change, NewView, Vote, Agreed, Reply, Frame, Proposes, Votes, Begins, Agrees, Replies, plain_of, plain_request_of, plain_entry_of, plain_signer_of, plain_proof_of, plain_change_of}
 use Rattle.fw_rules.specs.Signing.{entry_digest, new_view_text}
 use Rattle.fw_rules.specs.Agree.{Self, Memory, Own, Node, Cast, Pledge, Adopted, own_vote, own_proposal, best, proofs_of, all_proofs, choice, entry_or_null, last_changes, vote_quorum, signers_of, signer_of, signer_if, is_vote, nodes, numbers, agreed_at, to_others, to_row0, reply_to}
 use Rattle.fw_views.specs.Views.{own_change, own_new_view, bare_new_view, best_proofs, change_of, changes_by, entries_of}
 use Rattle.fw_law_node.specs.Sources.{Names, IsOwn}
-use Rattle.fw_law_node.proofs.Found.{agreed_in, held_reply}
-use Rattle.fw_law_node.proofs.Words.{first_some-in, when-some}
+use Rattle.fw_law_words.proofs.Tests.{when-some}
+use Rattle.fw_law_words.proofs.Firsts.{first_some-in}
+use Rattle.fw_law_words.proofs.Roles.{held_reply}
+use Rattle.fw_law_node.proofs.Found.{agreed_in}
 use Rattle.fw_law_node.proofs.Best.{best_of-is}
 use Rattle.fw_law_node.proofs.Quorums.{change_of-is}
 use Rattle.fw_law_node.proofs.Each.{Each, Each-append, Each-left, Each-at, Each-from, Each-map, Each-flat_map, Each-flat_mapped, Each-of_flat_mapped, Each-take, Each-filter_map}

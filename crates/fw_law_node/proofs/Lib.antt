@@ -1,5 +1,4 @@
 -- The files of lemmas.
-pub mod Words
 pub mod Acts
 pub mod Own
 pub mod Once

@@ -8,7 +8,9 @@ use Rattle.fw_rules.specs.Choices.{first_some}
 use Rattle.fw_rules.specs.Agree.{Self, Own, Node, Cast, Pledge, Adopted, Act, Offer, Prepare, Pledge_to, Commit, Up, greatest, cast_if, pledge_if, performs, new_node}
 use Rattle.fw_views.specs.Views.{Turn, Adopt, Start, Make, turns}
 use Rattle.fw_law_node.specs.Once.{Once, cast_place, pledge_place, change_place, adopted_place, DidOnce, own_after}
-use Rattle.fw_law_node.proofs.Words.{first_some-none, first_some-skip, when-false, when-none, filter-here, filter-skip}
+use Rattle.fw_law_words.proofs.Tests.{when-false, when-none}
+use Rattle.fw_law_words.proofs.Firsts.{first_some-none, first_some-skip}
+use Rattle.fw_law_words.proofs.Lists.{filter-here, filter-skip}
 use Rattle.fw_law_node.proofs.Acts.{MayTurn, MayAct}
 use Rattle.fw_law_node.proofs.Own.{kept_always}
 
@@ -20,10 +22,10 @@ once_same place (x ∷ xs) a b once (inl s) (inr j) e = absurd (once.0 b j (sym 
 once_same place (x ∷ xs) a b once (inr i) (inl t) e = absurd (once.0 a i (e ∙ ap place t))
 once_same place (x ∷ xs) a b once (inr i) (inr j) e = once_same place xs a b once.1 i j e
 
-abbrev is_in : ℕ → Cast → Bool
+abbrev pub is_in : ℕ → Cast → Bool
 is_in view c = nat_eq c.view view
 
-abbrev casts_of : ℕ → List Cast → List ℕ
+abbrev pub casts_of : ℕ → List Cast → List ℕ
 casts_of view casts = map (λ (c : Cast). c.number) (filter (is_in view) casts)
 
 -- there is no cast above the greatest

@@ -1,8 +1,8 @@
 -- What a node takes of a list by node is a quorum: as many as one has, ascending.
-use Rattle.std.proofs.Common.{ℕ, zero, suc, ◌+◌, ◌<◌, ◌≤◌, ◌≡◌, inl, inr, true, List, [], ◌∷◌, length, map, take, arith, refl, sym, ◌∙◌, ap, subst, Option, Some, None, filter_map}
+use Rattle.std.proofs.Common.{ℕ, zero, suc, ◌+◌, ◌<◌, ◌≤◌, ◌≡◌, inl, inr, true, List, [], ◌∷◌, map, take, arith, refl, sym, ◌∙◌, ap, subst, Option, Some, None, filter_map}
 use Rattle.std.specs.List.{cons_option}
 use Rattle.std.proofs.lemmas.Bool.{and_parts, and_from, lt-ltb, leb-true, eqb-true}
-use Rattle.std.proofs.lemmas.List.{length-take-le}
+use Rattle.std.proofs.lemmas.List.{length-map, length-take-le}
 use Rattle.std.proofs.lemmas.Option.{same_Some}
 use Rattle.fw_list.specs.Lists.{numbers_from}
 use Rattle.fw_list.specs.Numbers.{ascending}
@@ -12,7 +12,8 @@ use Rattle.fw_frame.specs.View.{Signer, Change, Vote}
 use Rattle.fw_rules.specs.Agree.{Self, Node, enough, nodes, signer_of, signer_if, vote_quorum}
 use Rattle.fw_views.specs.Views.{change_of, change_if, changes_by}
 use Rattle.fw_law_node.specs.Facts.{AreQuorum, signed_by}
-use Rattle.fw_law_node.proofs.Words.{when-some, first_some-in}
+use Rattle.fw_law_words.proofs.Tests.{when-some}
+use Rattle.fw_law_words.proofs.Firsts.{first_some-in}
 
 -- each is at least this, below that, and above the one before it
 abbrev pub Rises : ℕ → ℕ → List ℕ → Type 0
@@ -51,10 +52,6 @@ found-rises key f is first zero end l = tt
 found-rises key f is first (suc count) end l =
     rises-cons key first end (f first) (filter_map f (numbers_from (first + 1) count)) (is first) (omega arith) (found-rises key f is (first + 1) count end (omega arith))
 
-length-mapped : {A B : Type 0} (f : A → B) (xs : List A) → length (map f xs) ≡ length xs
-length-mapped f [] = refl
-length-mapped f (x ∷ xs) = ap (λ (n : ℕ). suc n) (length-mapped f xs)
-
 -- as many of them as a quorum has
 pub enough-quorum : {M B : Type 0} (me : Self M) (key : B → ℕ) (f : ℕ → Option B) (taken : List B) → ((n : ℕ) (b : B) → f n ≡ Some b → key b ≡ n) → enough me (filter_map f (nodes me.means.params)) ≡ Some taken → AreQuorum me.means.params (map key taken)
 enough-quorum {B = B} me key f taken is e =
@@ -64,7 +61,7 @@ enough-quorum {B = B} me key f taken is e =
     let rises = rises-take key (quorum p) 0 (agreements p) found (found-rises key f is 0 (agreements p) (agreements p) all) in
     let w = when-some _ _ taken e in
     let same = same_Some (take (quorum p) found) taken w.1 in
-    let size = length-mapped key (take (quorum p) found) ∙ length-take-le (quorum p) found (leb-true _ _ w.0) in
+    let size = length-map (take (quorum p) found) key ∙ length-take-le (quorum p) found (leb-true _ _ w.0) in
     subst (λ (l : List B). AreQuorum p (map key l)) same (record {
       enough = size;
       distinct = rises-ascending 0 (agreements p) (map key (take (quorum p) found)) rises;

@@ -17,8 +17,10 @@ use Rattle.fw_views.specs.Views.{Turn, Adopt, Start, Make, turns, own_change, ow
 use Rattle.fw_law_node.specs.Once.{node_after}
 use Rattle.fw_law_node.specs.Begun.{IsMade}
 use Rattle.fw_law_node.specs.Sent.{IsOf, IsSent}
-use Rattle.fw_law_node.proofs.Found.{lead_of, agreed_in, held_reply, cast_in, pledge_in}
-use Rattle.fw_law_node.proofs.Words.{first_some-in, when-some}
+use Rattle.fw_law_words.proofs.Tests.{when-some}
+use Rattle.fw_law_words.proofs.Firsts.{first_some-in}
+use Rattle.fw_law_words.proofs.Roles.{held_reply}
+use Rattle.fw_law_node.proofs.Found.{lead_of, agreed_in, cast_in, pledge_in}
 use Rattle.fw_law_node.proofs.Acts.{MayTurn, MayAct, Keeps, passes_keep}
 use Rattle.fw_law_node.proofs.Begun.{made}
 use Rattle.fw_law_node.proofs.Each.{Each, Each-append, Each-at, Each-from, Each-map}

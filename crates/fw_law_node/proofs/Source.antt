@@ -22,7 +22,8 @@ use Rattle.fw_views.specs.Views.{Turn, Adopt, Start, Make, turns, turned, adopt,
 use Rattle.fw_law_node.specs.Once.{node_after, own_after}
 use Rattle.fw_law_node.specs.Sources.{IsOwn, WasHeard, IsSourced}
 use Rattle.fw_law_node.proofs.Found.{lead_of, cast_in, pledge_in}
-use Rattle.fw_law_node.proofs.Words.{first_some-in, when-some}
+use Rattle.fw_law_words.proofs.Tests.{when-some}
+use Rattle.fw_law_words.proofs.Firsts.{first_some-in}
 use Rattle.fw_law_node.proofs.Acts.{MayTurn, MayAct, Keeps, passes_keep}
 use Rattle.fw_law_node.proofs.Own.{next_keeps}
 use Rattle.fw_law_node.proofs.Each.{Each, Each-append, Each-at, Each-from, Each-map, Each-take, Each-filter_map}

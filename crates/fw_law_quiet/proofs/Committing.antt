@@ -8,8 +8,9 @@ use Rattle.fw_source.proofs.Listed.{first_at-in}
 use Rattle.fw_rules.specs.Choices.{first_some}
 use Rattle.fw_frame.specs.View.{Entry, Signer, Agreed}
 use Rattle.fw_rules.specs.Agree.{Self, Node, Step, Act, Offer, Prepare, Pledge_to, Commit, Up, performs, for_each, numbers, agreed_at, commits, commits_in, commits_by, commit_with, seen_of, vote_quorum, goes_up, up_of, replied}
-use Rattle.fw_law_node.proofs.Words.{when-some, when-false, first_some-in, is_some-none}
-use Rattle.fw_law_quiet.proofs.Settling.{all_later, numbers_later, settled, when-less, none-not_some, some-not_none}
+use Rattle.fw_law_words.proofs.Tests.{when-some, when-false, is_some-none, when-less, none-not_some, some-not_none}
+use Rattle.fw_law_words.proofs.Firsts.{first_some-in}
+use Rattle.fw_law_quiet.proofs.Settling.{all_later, numbers_later, settled}
 
 -- ---- commits
 

@@ -1,5 +1,5 @@
 -- After the pass of proposals there is nothing left to propose.
-use Rattle.std.proofs.Common.{ℕ, ◌≤◌, ◌≡◌, inl, inr, Bool, true, false, ◌&&◌, not, nat_eq, nat_le, List, [], ◌∷◌, arith, refl, sym, ◌∙◌, ap, subst, Some, None, is_some, max, map, filter}
+use Rattle.std.proofs.Common.{ℕ, ◌≤◌, ◌≡◌, inl, inr, Bool, true, false, ◌&&◌, not, nat_eq, nat_le, List, [], ◌∷◌, arith, refl, sym, ◌∙◌, ap, subst, Some, None, is_some, max, map}
 use Rattle.std.specs.List.{list_any}
 use Rattle.std.proofs.lemmas.Bool.{cases_Bool, and_parts, and_from, and_left, and_right, or_left, or_right, not_from_true, eq-eqb, leb-true, le-leb, false≢true}
 use Rattle.std.proofs.lemmas.Option.{same_Some}
@@ -8,9 +8,12 @@ use Rattle.fw_trace.specs.Lists.{In}
 use Rattle.fw_means.specs.Means.{when}
 use Rattle.fw_frame.specs.View.{Request, Entry}
 use Rattle.fw_rules.specs.Agree.{Self, Node, Step, Cast, Act, Offer, Prepare, Pledge_to, Commit, Up, performs, for_each, makes_offers, numbers, offers_choice, offers_request, is_primary, is_waiting, has_request, top, choice, chosen, cast_at, cast_if, greatest, next_number, reply_to}
-use Rattle.fw_law_node.proofs.Words.{when-some, when-false, is_some-none, filter-here, filter-skip}
+use Rattle.fw_law_words.proofs.Tests.{when-some, when-false, is_some-none, when-less, when-never, none-not_some, some-not_none}
+use Rattle.fw_law_words.proofs.Firsts.{first_some-tail, first_some-here}
+use Rattle.fw_law_words.proofs.Lists.{filter-here, filter-skip}
+use Rattle.fw_law_node.proofs.Once.{is_in, casts_of}
 use Rattle.fw_law_quiet.specs.Quiet.{HasOffered}
-use Rattle.fw_law_quiet.proofs.Settling.{all_later, settled, for_each_stays, when-less, when-never, first_some-tail, first_some-here, none-not_some, some-not_none}
+use Rattle.fw_law_quiet.proofs.Settling.{all_later, settled, for_each_stays}
 
 -- ---- one prepare vote more
 
@@ -64,19 +67,13 @@ choice_settles me x n act e =
 abbrev is_cast : ℕ → Request → Cast → Bool
 is_cast view r c = nat_eq c.view view && has_request r.client r.stamp c.entry
 
-abbrev in_view : ℕ → Cast → Bool
-in_view view c = nat_eq c.view view
-
-abbrev numbers_in : ℕ → List Cast → List ℕ
-numbers_in view casts = map (λ (c : Cast). c.number) (filter (in_view view) casts)
-
-greatest_more : (view : ℕ) (c : Cast) (casts : List Cast) → greatest (numbers_in view casts) ≤ greatest (numbers_in view (c ∷ casts))
-greatest_more view c casts = elim (cases_Bool (in_view view c)) [
+greatest_more : (view : ℕ) (c : Cast) (casts : List Cast) → greatest (casts_of view casts) ≤ greatest (casts_of view (c ∷ casts))
+greatest_more view c casts = elim (cases_Bool (is_in view c)) [
   | inl e ↦
-      let most : greatest (numbers_in view casts) ≤ max c.number (greatest (numbers_in view casts)) = omega arith in
-      subst (λ (cs : List Cast). greatest (numbers_in view casts) ≤ greatest (map (λ (d : Cast). d.number) cs)) (sym (filter-here (in_view view) c casts e)) most
+      let most : greatest (casts_of view casts) ≤ max c.number (greatest (casts_of view casts)) = omega arith in
+      subst (λ (cs : List Cast). greatest (casts_of view casts) ≤ greatest (map (λ (d : Cast). d.number) cs)) (sym (filter-here (is_in view) c casts e)) most
   | inr e ↦
-      subst (λ (cs : List Cast). greatest (numbers_in view casts) ≤ greatest (map (λ (d : Cast). d.number) cs)) (sym (filter-skip (in_view view) c casts e)) (omega arith)
+      subst (λ (cs : List Cast). greatest (casts_of view casts) ≤ greatest (map (λ (d : Cast). d.number) cs)) (sym (filter-skip (is_in view) c casts e)) (omega arith)
 ]
 
 -- the four parts of a request that waits

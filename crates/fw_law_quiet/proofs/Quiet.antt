@@ -9,11 +9,13 @@ use Rattle.fw_trace.specs.declared.Input.TheVariants.{Heard, Tick, Submitted}
 use Rattle.fw_trace.specs.Lists.{In}
 use Rattle.fw_rules.specs.Choices.{admitted}
 use Rattle.fw_rules.specs.Agree.{Self, Node, Step, Act, performs, for_each, new_node, numbers, nodes, is_primary, makes_offers, casts_votes, commits_and_sends, offers_choice, offers_request, prepares, pledges, commits, commits_in, goes_up, cast_at, choice, chosen, Offer, Pledge_to, Prepare, Commit, Up}
-use Rattle.fw_views.specs.Views.{passes, passes_after, changes_view, hears_all, ticks, adopts, adopts_at, joins, joins_at, others_for, sent_for, Start}
+use Rattle.fw_views.specs.Views.{passes, passes_after, changes_view, hears_all, ticks, adopts_at, joins_at, others_for, sent_for, Start}
 use Rattle.fw_law_node.specs.Once.{node_after}
-use Rattle.fw_law_node.proofs.Words.{when-false, In-numbers}
+use Rattle.fw_law_words.proofs.Tests.{when-false, when-nothing}
+use Rattle.fw_law_words.proofs.Firsts.{first_some-nowhere}
+use Rattle.fw_law_words.proofs.Lists.{In-numbers, filter-nothing}
 use Rattle.fw_law_quiet.specs.Quiet.{IsTurned, HasOffered, IsQuiet}
-use Rattle.fw_law_quiet.proofs.Settling.{for_each_stays, when-nothing, first_some-nowhere, filter-nothing}
+use Rattle.fw_law_quiet.proofs.Settling.{for_each_stays}
 use Rattle.fw_law_quiet.proofs.Turning.{none_down, view_turned, act_turned}
 use Rattle.fw_law_quiet.proofs.Offering.{all_offered, act_offered}
 use Rattle.fw_law_quiet.proofs.Voting.{CastsNone, act_prepares, all_prepared, act_pledges, all_pledged}

@@ -1,15 +1,10 @@
 -- After a pass nothing of it is left to choose: what its acts settle stays settled.
-use Rattle.std.proofs.Common.{ℕ, zero, suc, ◌+◌, ◌<◌, ◌≡◌, inl, inr, Bool, true, false, not, List, [], ◌∷◌, ◌++◌, arith, refl, sym, ◌∙◌, ap, subst, Option, Some, None, is_some, filter, filter_map}
-use Rattle.std.specs.List.{cons_option}
-use Rattle.std.proofs.lemmas.Bool.{cond-false}
-use Rattle.std.proofs.lemmas.Option.{none-some}
+use Rattle.std.proofs.Common.{ℕ, zero, suc, ◌+◌, ◌<◌, ◌≡◌, inl, inr, List, [], ◌∷◌, arith, refl, Option, Some, None}
 use Rattle.fw_list.specs.Lists.{numbers_from}
 use Rattle.fw_trace.specs.Lists.{In}
-use Rattle.fw_means.specs.Means.{when}
-use Rattle.fw_rules.specs.Choices.{first_some}
 use Rattle.fw_rules.specs.Agree.{Self, Node, Step, Act, performs, acted, for_each}
 use Rattle.fw_views.specs.Views.{Turn, turns, turned, single}
-use Rattle.fw_law_node.proofs.Words.{In-numbers, first_some-skip}
+use Rattle.fw_law_words.proofs.Lists.{In-numbers}
 use Rattle.fw_law_node.proofs.Each.{Each, Each-at}
 
 -- ---- a pass over a list
@@ -83,55 +78,3 @@ turned_stays me P ch keep s (Some turn) e p = keep s.0 turn e p
 
 pub single_stays : {M : Type 0} (me : Self M) (P : Node → Type 0) (ch : Node → Option Turn) → ((x : Node) (turn : Turn) → ch x ≡ Some turn → P x → P (turns me x turn).0) → (s : Step M) → P s.0 → P (single me ch s).0
 single_stays me P ch keep s p = turned_stays me P ch keep s (ch s.0) refl p
-
--- ---- words
-
--- a test that asks for more chooses no more
-pub when-less : {A : Type 0} (b c : Bool) (o : Option A) → (c ≡ true → b ≡ true) → when b o ≡ None → when c o ≡ None
-when-less b true o f h = subst (λ (z : Bool). when z o ≡ None) (f refl) h
-when-less b false o f h = refl
-
-pub when-never : {A : Type 0} (b c : Bool) (y z : A) → (c ≡ true → b ≡ true) → when b (Some y) ≡ None → when c (Some z) ≡ None
-when-never b false y z f h = refl
-when-never b true y z f h = absurd (none-some y (sym (subst (λ (t : Bool). when t (Some y) ≡ None) (f refl) h)))
-
-pub when-nothing : {A : Type 0} (b : Bool) (o : Option A) → o ≡ None → when b o ≡ None
-when-nothing true o e = e
-when-nothing false o e = refl
-
-pub first_some-tail : {A B : Type 0} (f : A → Option B) (x : A) (xs : List A) → first_some f (x ∷ xs) ≡ None → first_some f xs ≡ None
-first_some-tail {A = A} {B = B} f x xs e = by (f x) refl e
-  where
-    by : (o : Option B) → f x ≡ o → ◌≡◌ {A = Option B} (elim o [ Some y ↦ Some y | None ↦ first_some f xs ]) None → first_some f xs ≡ None
-    by None d k = k
-    by (Some y) d k = absurd (none-some y (sym k))
-
-pub first_some-here : {A B : Type 0} (f : A → Option B) (x : A) (xs : List A) (y : B) → f x ≡ Some y → first_some f (x ∷ xs) ≡ Some y
-first_some-here {B = B} f x xs y e = subst (λ (o : Option B). elim o [ Some z ↦ Some z | None ↦ first_some f xs ] ≡ Some y) (sym e) refl
-
-pub first_some-nowhere : {A B : Type 0} (f : A → Option B) (xs : List A) → ((x : A) → f x ≡ None) → first_some f xs ≡ None
-first_some-nowhere f [] none = refl
-first_some-nowhere f (x ∷ xs) none = first_some-skip f x xs (none x) (first_some-nowhere f xs none)
-
--- one more in the end, at which nothing is found
-pub first_some-more : {A B : Type 0} (f : A → Option B) (xs : List A) (y : A) → f y ≡ None → first_some f (xs ++ y ∷ []) ≡ first_some f xs
-first_some-more f [] y e = first_some-skip f y [] e refl
-first_some-more {B = B} f (x ∷ xs) y e =
-    ap (λ (o : Option B). elim (f x) [ Some z ↦ Some z | None ↦ o ]) (first_some-more f xs y e)
-
-pub filter_map-same : {A B : Type 0} (f g : A → Option B) (xs : List A) → ((x : A) → f x ≡ g x) → filter_map f xs ≡ filter_map g xs
-filter_map-same f g [] same = refl
-filter_map-same {B = B} f g (x ∷ xs) same =
-    ap (λ (o : Option B). cons_option o (filter_map f xs)) (same x) ∙ ap (λ (l : List B). cons_option (g x) l) (filter_map-same f g xs same)
-
-pub filter-nothing : {A : Type 0} (p : A → Bool) (xs : List A) → ((x : A) → p x ≡ false) → filter p xs ≡ []
-filter-nothing p [] none = refl
-filter-nothing p (x ∷ xs) none = cond-false (p x) (x ∷ filter p xs) (filter p xs) (none x) ∙ filter-nothing p xs none
-
-pub none-not_some : {A : Type 0} (o : Option A) → o ≡ None → not (is_some o) ≡ true
-none-not_some None e = refl
-none-not_some (Some x) e = cc
-
-pub some-not_none : {A : Type 0} (o : Option A) (x : A) → o ≡ Some x → not (is_some o) ≡ false
-some-not_none None x e = cc
-some-not_none (Some y) x e = refl

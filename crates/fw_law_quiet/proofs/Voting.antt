@@ -1,5 +1,5 @@
 -- After the passes of votes there is nothing left to vote for.
-use Rattle.std.proofs.Common.{ℕ, ◌+◌, ◌≡◌, Bool, ◌&&◌, not, nat_eq, List, [], ◌∷◌, ◌++◌, refl, sym, ap, subst, Option, Some, None, is_some}
+use Rattle.std.proofs.Common.{ℕ, ◌≡◌, Bool, ◌&&◌, not, nat_eq, List, [], ◌∷◌, ◌++◌, refl, sym, ap, subst, Option, Some, None, is_some}
 use Rattle.std.proofs.lemmas.Bool.{and_parts, and_from, and_right, eq-eqb}
 use Rattle.std.proofs.lemmas.Option.{none-some, same_Some}
 use Rattle.fw_trace.specs.Lists.{In}
@@ -8,8 +8,10 @@ use Rattle.fw_rules.specs.Choices.{first_some}
 use Rattle.fw_frame.specs.View.{Entry, Signer, Vote}
 use Rattle.fw_rules.specs.Signing.{entry_digest}
 use Rattle.fw_rules.specs.Agree.{Self, Node, Step, Pledge, Act, Offer, Prepare, Pledge_to, Commit, Up, performs, for_each, numbers, nodes, is_primary, cast_at, prepares, prepares_one, pledges, pledges_cast, pledge_of, pledge_at, pledge_if, vote_quorum, enough, signers_of, signer_of, signer_if, own_vote}
-use Rattle.fw_law_node.proofs.Words.{when-some, when-false, first_some-in, is_some-none}
-use Rattle.fw_law_quiet.proofs.Settling.{all_later, settled, when-less, first_some-tail, first_some-here, first_some-more, filter_map-same, none-not_some, some-not_none}
+use Rattle.fw_law_words.proofs.Tests.{when-some, when-false, is_some-none, when-less, none-not_some, some-not_none}
+use Rattle.fw_law_words.proofs.Firsts.{first_some-in, first_some-tail, first_some-here, first_some-more}
+use Rattle.fw_law_words.proofs.Lists.{filter_map-same}
+use Rattle.fw_law_quiet.proofs.Settling.{all_later, settled}
 use Rattle.fw_law_quiet.proofs.Offering.{with_cast, cast_before, cast_here}
 
 -- ---- prepare votes

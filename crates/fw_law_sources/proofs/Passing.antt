@@ -1,7 +1,5 @@
--- Messages that are passed on as they were heard, and what is read of them.
-use Rattle.std.proofs.Common.{◌≡◌, inl, inr, Bool, true, false, List, [], ◌∷◌, Option, Some, None, refl, sym, ◌∙◌, ap, subst, ◌&&◌}
-use Rattle.std.specs.Prelude.{option_and_then}
-use Rattle.std.proofs.lemmas.Option.{none-some}
+-- Messages that are passed on as they were heard, and those that a seat makes: where their parts come from.
+use Rattle.std.proofs.Common.{inl, inr, List, [], ◌∷◌, sym, ◌∙◌, ap, subst, ◌&&◌}
 use Rattle.fw_base.specs.declared.seat.Seat.{Seat}
 use Rattle.fw_base.specs.Seats.{fits, linked}
 use Rattle.fw_trace.specs.declared.Input.{Input}
@@ -9,28 +7,10 @@ use Rattle.fw_trace.specs.declared.Input.TheVariants.{Heard, Tick, Submitted}
 use Rattle.fw_trace.specs.Lists.{In}
 use Rattle.fw_frame.specs.Parts.{Part}
 use Rattle.fw_frame.specs.View.{Frame}
-use Rattle.fw_means.specs.Means.{when}
 use Rattle.fw_rules.specs.Means.{Means}
-use Rattle.fw_rules.specs.Choices.{admitted}
+use Rattle.fw_law_words.proofs.Tests.{when-some}
 use Rattle.fw_law_filter.specs.Heard.{HeardNow, WasHeard}
 use Rattle.fw_law_sources.specs.Sources.{IsPassed, IsMade, IsBare, IsSourced, IsWhollyHeard}
-
-pub when-some : {A : Type 0} (b : Bool) (o : Option A) (y : A) → when b o ≡ Some y → o ≡ Some y
-when-some true o y e = e
-when-some false o y e = absurd (none-some y e)
-
--- an admitted frame, and what is made of it
-pub record Admits {M B : Type 0} (k : Means M) (seat from : Seat) (m : M) (f : Frame → Option B) (y : B) : Type 0 where
-  pub frame : Frame
-  pub read : admitted k seat from m ≡ Some frame
-  pub gives : f frame ≡ Some y
-
-pub admits : {M B : Type 0} (k : Means M) (seat from : Seat) (m : M) (f : Frame → Option B) (y : B) → option_and_then f (admitted k seat from m) ≡ Some y → Admits k seat from m f y
-admits {M = M} {B = B} k seat from m f y e = by (admitted k seat from m) refl e
-  where
-    by : (o : Option Frame) → admitted k seat from m ≡ o → option_and_then f o ≡ Some y → Admits k seat from m f y
-    by None q h = absurd (none-some y h)
-    by (Some v) q h = record { frame = v; read = q; gives = h }
 
 pub was_heard : {M O : Type 0} (P : Seat → M → Type 0) (h : List (Input M O)) (from : Seat) (m : M) → P from m → In (Heard from m) h → WasHeard P h
 was_heard P [] from m p i = absurd i
@@ -44,7 +24,7 @@ heard_longer k me Kind i h m w = record { frame = w.frame; read = w.read; kind =
 heard_now : {M O : Type 0} (k : Means M) (me : Seat) (Kind : Frame → Type 0) (i : Input M O) (h : List (Input M O)) (m : M) → HeardNow (IsPassed k me Kind m) i → IsWhollyHeard k me Kind (i ∷ h) m
 heard_now k me Kind (Heard from sent) h m p = record {
   frame = p.frame;
-  read = ap k.read (sym p.same) ∙ when-some (fits k.params from && linked k.params from me) (k.read sent) p.frame p.read;
+  read = ap k.read (sym p.same) ∙ (when-some (fits k.params from && linked k.params from me) (k.read sent) p.frame p.read).1;
   kind = p.kind;
   heard = λ part j. inl (record { frame = p.frame; read = p.read; among = j });
 }

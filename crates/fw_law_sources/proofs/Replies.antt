@@ -14,13 +14,15 @@ use Rattle.fw_frame.specs.View.{Given, Frame, Agrees, Shares, Replies}
 use Rattle.fw_rules.specs.Means.{Means}
 use Rattle.fw_rules.specs.Choices.{admitted}
 use Rattle.fw_rules.specs.Roles.{Valued, agreed_number, replied_number, share_from, joined, filter_speech}
+use Rattle.fw_law_words.proofs.Tests.{when-some}
+use Rattle.fw_law_words.proofs.Roles.{admits}
 use Rattle.fw_law_filter.specs.Heard.{HeardNow, WasHeard, IsThisReply, IsShare, WasMade}
 use Rattle.fw_law_filter.specs.Passed.{GoesUp}
 use Rattle.fw_law_filter.proofs.Holding.{WasHeard-weaken, shares_heard, shares_apart, held_comes}
 use Rattle.fw_law_filter.proofs.Sending.{sends_are}
 use Rattle.fw_law_sources.specs.Sources.{IsReplyFrame, IsAgreedOrReplyFrame, IsHeard, IsPassed, IsMade, IsSourcedOrPassed}
 use Rattle.fw_law_sources.specs.Joined.{part_of_share, IsHeardShare, joined_part, IsJoined}
-use Rattle.fw_law_sources.proofs.Passing.{when-some, admits, made_sourced}
+use Rattle.fw_law_sources.proofs.Passing.{made_sourced}
 use Rattle.fw_law_sources.proofs.Joining.{combines}
 
 -- ---- what is read of a message
@@ -37,7 +39,7 @@ module _ {M : Type 0} (k : Means M) (r c : ℕ) where
   share_part : (from : Seat) (m : M) (s : shares.Share Valued) (v : Frame) → admitted k (seats.Filter r c) from m ≡ Some v → share_from from v ≡ Some s → IsHeard k (seats.Filter r c) (part_of_share s) from m
   share_part (seats.Exec j) m s (Shares x) read e =
       let told : shares.Share Valued = record { number = x.number; exec = x.exec; value = (x.answers, x.values) } in
-      record { frame = Shares x; read = read; among = inl (ap part_of_share (sym (same_Some told s (when-some _ (Some told) s e)))) }
+      record { frame = Shares x; read = read; among = inl (ap part_of_share (sym (same_Some told s (when-some _ (Some told) s e).1))) }
   share_part _ m s _ read e = absurd (none-some s e)
 
   heard_part : (s : shares.Share Valued) (from : Seat) (m : M) → IsShare (filter_speech k r c) s from m → IsHeard k (seats.Filter r c) (part_of_share s) from m
@@ -47,7 +49,7 @@ module _ {M : Type 0} (k : Means M) (r c : ℕ) where
 
   passed_reply : (n : ℕ) (sent : M) (from : Seat) (m : M) → IsThisReply (filter_speech k r c) n sent from m → IsPassed k (seats.Filter r c) IsAgreedOrReplyFrame sent from m
   passed_reply n sent from m p =
-      let a = admits k (seats.Filter r c) from m (replied_number from) n (when-some (above k.params (seats.Filter r c) from) _ n p.1) in
+      let a = admits k (seats.Filter r c) from m (replied_number from) n ((when-some (above k.params (seats.Filter r c) from) _ n p.1).1) in
       record { same = p.0; frame = a.frame; read = a.read; kind = reply from a.frame n a.gives }
 
 module _ {M O : Type 0} (k : Means M) (r c : ℕ) where

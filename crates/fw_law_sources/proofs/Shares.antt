@@ -13,13 +13,14 @@ use Rattle.fw_source.proofs.Listed.{first_at-in}
 use Rattle.fw_frame.specs.View.{Entry, Frame, Agrees, Shares, Wants}
 use Rattle.fw_rules.specs.Means.{Means, Bodies}
 use Rattle.fw_rules.specs.Roles.{share_of, step_all, agreed_frame, executor_speech}
+use Rattle.fw_law_words.proofs.Roles.{admits}
 use Rattle.fw_law_filter.specs.Heard.{WasHeard}
 use Rattle.fw_law_exec.specs.Executed.{state_of, fold_of, SendsOnly}
 use Rattle.fw_law_exec.proofs.Folds as folds
 use Rattle.fw_law_exec.proofs.Histories.{executes_always, heard_always, all_sent}
 use Rattle.fw_law_sources.specs.Sources.{IsAgreedFrame, IsShareFrame, IsWantFrame, IsPassed, IsMade, IsBare, IsSourcedOrPassed}
 use Rattle.fw_law_sources.specs.Executed.{share_part, IsOwnShare}
-use Rattle.fw_law_sources.proofs.Passing.{admits, was_heard, made_sourced, bare_sourced}
+use Rattle.fw_law_sources.proofs.Passing.{was_heard, made_sourced, bare_sourced}
 
 is_agreement : (from : Seat) (v : Frame) (a : ℕ × Entry) → agreed_frame from v ≡ Some a → IsAgreedFrame v
 is_agreement (seats.Filter r c) (Agrees x) a e = (x, refl)

@@ -1,5 +1,5 @@
--- The plans that can be replayed so far: one agreement node, nobody faulty, and no ticks.
-use Rattle.std.specs.Prelude.{Bool, true, false, ◌&&◌, not, nat_eq, List, [], ◌∷◌}
+-- The plans that can be replayed so far: nobody faulty, and no ticks.
+use Rattle.std.specs.Prelude.{Bool, true, false, ◌&&◌, not, List, [], ◌∷◌}
 use Rattle.std.specs.List.{list_any}
 use Rattle.fw_step.specs.declared.step.Step.{Step}
 use Rattle.fw_step.specs.declared.step.Step.TheVariants.{Tick}
@@ -15,4 +15,4 @@ is_tick (Tick seat) = true
 is_tick _ = false
 
 abbrev pub can_replay : Plan → Bool
-can_replay p = nat_eq p.params.f 0 && is_empty p.faulty && not (list_any is_tick p.steps)
+can_replay p = is_empty p.faulty && not (list_any is_tick p.steps)

@@ -35,10 +35,10 @@ fn has_tick(steps: &[Step]) -> bool
 }
 
 impl Plan {
-    /// Whether this is a plan of the kind that can be replayed so far: one agreement node, nobody faulty, and no ticks.
+    /// Whether this is a plan of the kind that can be replayed so far: nobody faulty, and no ticks.
     pub fn can_replay(&self) -> bool
         ensures { result ≡ can_replay self.now }
     {
-        self.params.f == 0 && self.faulty.len() == 0 && !has_tick(self.steps.items())
+        self.faulty.len() == 0 && !has_tick(self.steps.items())
     }
 }

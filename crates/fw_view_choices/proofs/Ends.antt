@@ -24,6 +24,7 @@ use Rattle.fw_rules.specs.Toy.{Lie, Row, toy_bodies}
 use Rattle.fw_views.specs.Views.{agree_role}
 use Rattle.fw_view_runs.specs.Whole.{toy_world, sends_at, correct_nodes, EndsIn}
 use Rattle.fw_view_runs.specs.Whole as whole
+use Rattle.fw_law_words.proofs.Lists.{map_same}
 use Rattle.fw_view_choices.specs.Carried.{KeepsAll, run}
 use Rattle.fw_view_choices.specs.Seats.{Kept, Run, wrapped_role, Agrees, Executes, Filters, Asks, node_in, executor_in, filter_in, client_in, client_at, role_at, view_of, accepted_by, row_of, viewed_row, CarriedEndsIn}
 use Rattle.fw_view_choices.proofs.Carrying.{ran}
@@ -55,10 +56,6 @@ pub carried : (k : Means Frame) (starts : List Start) (faulty : List Seat) (step
 carried k starts faulty steps = (ran (toy_world k starts faulty) (role_at k starts) steps (λ lie pool s. refl) (follows k starts)).well
 
 -- ---- what is said of a run
-
-map_same : {A B : Type 0} (f g : A → B) (xs : List A) → ((x : A) → f x ≡ g x) → map f xs ≡ map g xs
-map_same f g [] same = refl
-map_same {A} {B} f g (x ∷ xs) same = ap (λ (y : B). y ∷ map f xs) (same x) ∙ ap (λ (ys : List B). g x ∷ ys) (map_same f g xs same)
 
 view_is : (k : Means Frame) (starts : List Start) (c : Run) → KeepsAll (role_at k starts) c → (i : ℕ) → whole.view_of k c.trace i ≡ view_of k starts c i
 view_is k starts c keeps i =

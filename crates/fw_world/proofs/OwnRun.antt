@@ -1,8 +1,8 @@
 -- The run of a deal's new nodes is the run of its deployment.
 use mathlib.Core.Path.{fun_ext}
-use Rattle.std.proofs.Common.{◌≡◌, ◌⊎◌, ℕ, ◌<◌, true, false, ◌&&◌, not, nat_eq, List, [], ◌∷◌, Option, Some, Ok, slice_get, refl, sym, ap, ◌∙◌, subst, inl, inr, IsTrue}
+use Rattle.std.proofs.Common.{◌≡◌, ◌⊎◌, ℕ, ◌<◌, true, false, ◌&&◌, not, List, [], ◌∷◌, Option, Some, Ok, slice_get, refl, sym, ap, ◌∙◌, subst, inl, inr, IsTrue}
 use Rattle.std.specs.List.{list_all, list_any}
-use Rattle.std.proofs.lemmas.Bool.{and_parts, eqb-true}
+use Rattle.std.proofs.lemmas.Bool.{and_parts}
 use Rattle.fw_base.specs.declared.params.Params.{Params}
 use Rattle.fw_base.specs.declared.seat.Seat.{Seat}
 use Rattle.fw_base.specs.Sizes.{accepted}
@@ -32,20 +32,14 @@ use Rattle.fw_law_honest.specs.Laws.{deployed}
 use Rattle.fw_world.specs.Plans.{deal_of, IsRunOf, FailsAt}
 use Rattle.fw_world.specs.Played.{ArePlayed}
 
--- a plan that can be replayed has one agreement node, and nobody is faulty
+-- in a plan that can be replayed nobody is faulty
 empty_is : {A : Type 0} (xs : List A) → is_empty xs ≡ true → xs ≡ []
 empty_is [] e = refl
 empty_is (x ∷ xs) e = absurd (cc)
 
 pub nobody_faulty : (p : Plan) → can_replay p ≡ true → p.faulty ≡ []
 nobody_faulty p can =
-    let two = and_parts (nat_eq p.params.f 0 && is_empty p.faulty) (not (list_any is_tick p.steps)) can in
-    empty_is p.faulty (and_parts (nat_eq p.params.f 0) (is_empty p.faulty) two.0).1
-
-pub one_decides : (p : Plan) → can_replay p ≡ true → p.params.f ≡ 0
-one_decides p can =
-    let two = and_parts (nat_eq p.params.f 0 && is_empty p.faulty) (not (list_any is_tick p.steps)) can in
-    eqb-true p.params.f 0 (and_parts (nat_eq p.params.f 0) (is_empty p.faulty) two.0).0
+    empty_is p.faulty (and_parts (is_empty p.faulty) (not (list_any is_tick p.steps)) can).0
 
 -- a new world of the nodes of a deal
 abbrev pub fresh : {A E F C : Type 0} → PlainDirectory → Nodes A E F C → List Step → Staged A E F C

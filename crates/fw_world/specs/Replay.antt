@@ -8,12 +8,12 @@ use Rattle.fw_law_honest.specs.Laws.{deployed, AcceptsAnswers, LetsDownCertifica
 use Rattle.fw_seen.specs.Summary.{report_of}
 use Rattle.fw_world.specs.Plans.{deal_of, IsRunOf}
 
--- the text is the report of the plan's run; in it each reply that a client accepted is the reference service's at its number of the
--- agreed list, and what the filters sent downwards are certificates of that list
+-- the text is the report of the plan's run; where one agreement node decides, each reply that a client accepted is the reference
+-- service's at its number of the agreed list, and what the filters sent downwards are certificates of that list
 pub record IsReportOf (p : Plan) (text : List ℕ) : Type 0 where
   pub directory : PlainDirectory
   pub trace : Trace (List ℕ) Op
   pub run : IsRunOf p directory trace
   pub report : text ≡ report_of (deployed (deal_of p) directory) trace
-  pub accepted : AcceptsAnswers (deal_of p) directory trace
-  pub certificates : LetsDownCertificates (deal_of p) directory trace
+  pub accepted : p.params.f ≡ 0 → AcceptsAnswers (deal_of p) directory trace
+  pub certificates : p.params.f ≡ 0 → LetsDownCertificates (deal_of p) directory trace

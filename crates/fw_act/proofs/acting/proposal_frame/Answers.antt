@@ -4,8 +4,8 @@ use Rattle.std.proofs.lemmas.Result.{IfOk-weaker}
 use Rattle.fw_frame.specs.Frames as frames
 use Rattle.fw_frame.specs.Plain.{plain_entry}
 use Rattle.fw_frame.specs.Spelling.{frame_bytes}
-use Rattle.fw_kept.specs.Kept.{entry_of}
-use Rattle.fw_act.proofs.Writing.{proposal_written}
+use Rattle.fw_kept.specs.Pieces.{entry_of}
+use Rattle.fw_kept.proofs.Writing.{proposal_written}
 use Rattle.fw_act.proofs.acting.proposal_frame.Goals as goal
 
 pub returns : goal.returns

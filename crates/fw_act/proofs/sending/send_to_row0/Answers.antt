@@ -11,6 +11,6 @@ use Rattle.fw_act.proofs.sending.send_to_row0.Goals as goal
 pub returns-clause-sent : goal.returns-clause-sent
 returns-clause-sent c =
     on_ok_weaker c.send_to_all.result
-    (λ sent hand own frame same. sent_each (seats.Filter 0) (numbers_from 0 (width c.args.directory.now.params)) c.items.result.now c.items-2.result.now (written frame) c.args.out.now c.send_to_all.new.self
-    (c.items.ensures ∙ c.in_ok-to.ensures ∙ ap (λ p. map (seats.Filter 0) (numbers_from 0 (width p))) c.params.ensures.same) (c.items-2.ensures ∙ same) sent)
+    (λ sent hand own frame same. sent_each (seats.Filter 0) (numbers_from 0 (width c.args.directory.now.params)) c.items.result.now c.args.bytes.now (written frame) c.args.out.now c.send_to_all.new.self
+    (c.items.ensures ∙ c.in_ok-to.ensures ∙ ap (λ p. map (seats.Filter 0) (numbers_from 0 (width p))) c.params.ensures.same) same sent)
     c.send_to_all.ensures.ok

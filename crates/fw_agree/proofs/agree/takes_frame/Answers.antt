@@ -1,5 +1,5 @@
 -- What was heard, and the passes after it.
-use Rattle.std.proofs.Common.{◌≡◌, Some, None, ap, ◌∙◌}
+use Rattle.std.proofs.Common.{◌≡◌, Some, None, ap, sym, ◌∙◌}
 use Rattle.std.proofs.lemmas.Result.{on_ok_weaker}
 use Rattle.fw_base.specs.declared.seat.Seat.TheVariants as seats
 use Rattle.fw_frame.specs.Plain.{plain}
@@ -9,18 +9,14 @@ use Rattle.fw_rules.specs.Agree.{hears}
 use Rattle.fw_kept.specs.Kept.{self_of, node_of}
 use Rattle.fw_agree.specs.Steps.{at, behind_some, if_heard}
 use Rattle.fw_agree.proofs.Beginning.{begins_on}
-use Rattle.fw_agree.proofs.Heard.{heard_signed, heard_begins, heard_then, ignored_then}
+use Rattle.fw_agree.proofs.Heard.{admitted_digest, heard_begins, heard_then, ignored_then}
 use Rattle.fw_agree.proofs.agree.takes_frame.Goals as goal
 
-pub passes-requires-clause-signed : goal.passes-requires-clause-signed
-passes-requires-clause-signed g c =
-    let me = self_of c.args.directory.now c.args.hand.now c.args.own in
-    let x = node_of c.args.keeps.now in
+pub hears-requires-clause-digest : goal.hears-requires-clause-digest
+hears-requires-clause-digest g c =
     let f = viewed (plain c.in-Some.checked) in
-    let was = at c.hears.new.keeps c.hears.new.out in
-    let heard : behind_some c.args.out.now (hears me x c.args.from f) ≡ if_heard c.in_ok-hears.field-0 was = rw c.frame.ensures at (c.in_ok-hears.ensures.step c.args.hand.now c.args.own) in
-    let is : behind_some c.args.out.now (hears me x c.args.from f) ≡ Some was = heard ∙ ap (λ b. if_heard b was) c.if-branch.true in
-    heard_signed c.args.directory.now.params me x (node_of c.hears.new.keeps) c.args.from f c.args.out.now c.hears.new.out is c.requires.signed
+    let found : Some f ≡ admitted_by c.args.directory.now (seats.Agree c.args.own) c.args.from c.args.bytes.now = rw c.in-Some.is at c.in_ok-checked.ensures in
+    rw c.frame.ensures (admitted_digest c.args.directory.now (seats.Agree c.args.own) c.args.from c.args.bytes.now f (sym found))
 
 pub returns-then-branch-clause-step : goal.returns-then-branch-clause-step
 returns-then-branch-clause-step g c =

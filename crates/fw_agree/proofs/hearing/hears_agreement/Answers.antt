@@ -12,4 +12,4 @@ returns-in_ok-hears_proposal-in-Propose-clause-step c = λ hand own i out.
     let m = c.in-Propose in
     rw m.is
     (ap (λ o. Some (hears_proposal (self_of c.args.directory.now hand own) (node_of c.args.keeps.now) (record { view = m.view; number = m.number; entry = viewed_entry (plain_entry m.entry); sig = m.sig.now }), o)) (append-nil out)
-    ∙ ap (λ x. Some (x, out)) (sym (c.in_ok-hears_proposal-in-Propose.ensures hand own)))
+    ∙ ap (λ x. Some (x, out)) (sym (c.in_ok-hears_proposal-in-Propose.ensures.kept hand own)))

@@ -16,4 +16,4 @@ pub returns-in-None-clause-step : goal.returns-in-None-clause-step
 returns-in-None-clause-step c =
     on_ok_weaker c.remembers_request.result
     (λ kept hand own. unanswered c.args.directory.now hand own (node_of c.args.keeps.now) (node_of c.remembers_request.new.keeps) c.args.from (viewed_request (plain_request c.args.request.now)) c.args.out.now (c.in-None.ensures hand own) kept)
-    c.remembers_request.ensures
+    c.remembers_request.ensures.kept

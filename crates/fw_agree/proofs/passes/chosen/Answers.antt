@@ -5,16 +5,13 @@ use Rattle.std.proofs.lemmas.Result.{IfOk-weaker}
 use Rattle.fw_hand.specs.Hands.{PlainHand}
 use Rattle.fw_rules.specs.Agree as agree
 use Rattle.fw_kept.specs.Kept.{self_of, node_of, act_of}
-use Rattle.fw_agree.proofs.Signed.{doable_ok, owned_signed}
+use Rattle.fw_agree.proofs.Doable.{doable_ok}
 use Rattle.fw_agree.proofs.passes.chosen.Goals as goal
 
 pub returns-in-Prepares-clause-doable : goal.returns-in-Prepares-clause-doable
 returns-in-Prepares-clause-doable c =
     let p = c.args.directory.now.params in
-    doable_ok p c.args.number c.prepares.result c.requires.sizes c.requires.first c.requires.last c.prepares.ensures.number (c.prepares.ensures.signers p)
-
-pub returns-in-Prepares-clause-signed : goal.returns-in-Prepares-clause-signed
-returns-in-Prepares-clause-signed c = c.prepares.ensures.signers c.args.directory.now.params
+    doable_ok p c.args.number c.prepares.result c.requires.first c.requires.last c.prepares.ensures.number (c.prepares.ensures.signers p)
 
 pub returns-in-Ups-clause-act : goal.returns-in-Ups-clause-act
 returns-in-Ups-clause-act c =
@@ -26,10 +23,4 @@ returns-in-Ups-clause-act c =
 
 pub returns-in-Ups-clause-doable : goal.returns-in-Ups-clause-doable
 returns-in-Ups-clause-doable c =
-    let p = c.args.directory.now.params in
-    doable_ok p c.args.number c.goes_up.result c.requires.sizes c.requires.first c.requires.last c.goes_up.ensures.number
-    (c.goes_up.ensures.signers (owned_signed p c.args.keeps.now.committed c.requires.signed))
-
-pub returns-in-Ups-clause-signed : goal.returns-in-Ups-clause-signed
-returns-in-Ups-clause-signed c =
-    c.goes_up.ensures.signers (owned_signed c.args.directory.now.params c.args.keeps.now.committed c.requires.signed)
+    doable_ok c.args.directory.now.params c.args.number c.goes_up.result c.requires.first c.requires.last c.goes_up.ensures.number c.goes_up.ensures.signers

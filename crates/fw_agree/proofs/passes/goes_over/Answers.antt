@@ -17,6 +17,6 @@ loop-k-preserved c =
     let end = c.params.result.now.numbers in
     record {
       step = ap (for_each me f (numbers_from (k + 1 + 1) (end - (k + 1)))) (c.in_ok-does.ensures.step ∙ ap (acted me s) (c.in_ok-act.ensures.act c.args.hand.now)) ∙ sym (each_next me f k end s c.loop-k-test.true) ∙ c.loop-k.invariant.step;
-      signed = c.in_ok-does.ensures.signed;
+      sizes = λ p was. c.does.ensures.sizes p (c.loop-k.invariant.sizes p was);
       begins = begins_on c.args.out.now c.loop-k.out c.does.new.out c.loop-k.invariant.begins c.in_ok-does.ensures.begins;
     }

@@ -1,7 +1,8 @@
 -- No request is left.
 use Rattle.std.proofs.Common.{◌≤◌, length, map, sym, ◌∙◌, arith}
 use Rattle.fw_rules.specs.Agree as agree
-use Rattle.fw_kept.specs.Kept.{self_of, request_of}
+use Rattle.fw_kept.specs.Kept.{self_of}
+use Rattle.fw_kept.specs.Pieces.{request_of}
 use Rattle.fw_agree.specs.Steps.{at}
 use Rattle.fw_agree.proofs.Going.{offered_last, only_requests}
 use Rattle.fw_agree.proofs.passes.makes_offers.Goals as goal

@@ -1,8 +1,10 @@
 -- The requests that are left lead where all lead.
 use Rattle.std.proofs.Common.{◌≡◌, length, map, drop, take}
+use Rattle.fw_base.specs.declared.params.Params.{Params}
 use Rattle.fw_rules.specs.Agree as agree
-use Rattle.fw_kept.specs.Kept.{self_of, node_of, request_of}
-use Rattle.fw_agree.specs.Steps.{at, AreSigned}
+use Rattle.fw_kept.specs.Kept.{self_of, IsFor}
+use Rattle.fw_kept.specs.Pieces.{request_of}
+use Rattle.fw_agree.specs.Steps.{at}
 use Rattle.fw_agree.proofs.passes.makes_offers.Given as goal
 
 abbrev pub invariant-loop-place : goal.invariant-loop-place
@@ -12,6 +14,6 @@ invariant-loop-place l =
     record {
       step : agree.for_each me (agree.offers_request me) (drop l.place requests) (at l.keeps l.out) ≡ agree.for_each me (agree.offers_request me) requests (at l.fn.keeps l.fn.out);
       same : map request_of l.keeps.requests ≡ requests;
-      signed : AreSigned l.directory.params (node_of l.keeps);
+      sizes : (p : Params) → IsFor p l.fn.keeps → IsFor p l.keeps;
       begins : take (length l.fn.out) l.out ≡ l.fn.out;
     }

@@ -1,8 +1,8 @@
 -- Nothing has the request.
 use Rattle.std.proofs.Common.{◌∙◌, ap, sym}
 use Rattle.std.specs.Prelude.{is_some}
-use Rattle.fw_kept.specs.Kept.{request_of, reply_of}
-use Rattle.fw_choose.proofs.Found.{copied_some}
+use Rattle.fw_kept.specs.Pieces.{request_of, reply_of}
+use Rattle.fw_kept.proofs.Found.{copied_some}
 use Rattle.fw_choose.proofs.Choosing.{waits}
 use Rattle.fw_choose.proofs.offers.is_waiting.Goals as goal
 

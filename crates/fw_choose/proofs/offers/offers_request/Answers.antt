@@ -3,7 +3,8 @@ use Rattle.std.proofs.Common.{◌≡◌, ◌≤◌, [], ◌∷◌, true, nat_le,
 use Rattle.std.proofs.lemmas.Bool.{le-leb}
 use Rattle.fw_base.specs.declared.params.Params.{Params}
 use Rattle.fw_rules.specs.Agree as agree
-use Rattle.fw_kept.specs.Kept.{self_of, node_of, request_of}
+use Rattle.fw_kept.specs.Kept.{self_of, node_of}
+use Rattle.fw_kept.specs.Pieces.{request_of}
 use Rattle.fw_choose.proofs.Choosing.{offers_none, offers_taken, offers_one}
 use Rattle.fw_choose.proofs.offers.offers_request.Goals as goal
 

@@ -1,31 +1,40 @@
--- What is agreed at the number.
-use Rattle.std.proofs.Common.{◌≡◌, nat_eq, length, Some, ap, sym, ◌∙◌}
-use Rattle.std.proofs.lemmas.Bool.{eqb-true}
+-- What is agreed at the number, where it is the next one.
+use Rattle.std.proofs.Common.{◌≡◌, ℕ, length, Some, None, ap, sym, ◌∙◌}
+use Rattle.std.proofs.lemmas.Option.{none-some, same_Some}
 use Rattle.fw_base.specs.Sizes.{quorum}
 use Rattle.fw_rules.specs.Agree as agree
 use Rattle.fw_kept.specs.declared.owned.OwnedAgreed.{OwnedAgreed}
-use Rattle.fw_kept.specs.Kept.{self_of, node_of, agreed_of}
-use Rattle.fw_choose.proofs.Found.{found_passes, found_is_one}
-use Rattle.fw_choose.proofs.Choosing.{up_not, up_if}
+use Rattle.fw_kept.specs.Pieces.{agreed_of}
+use Rattle.fw_kept.specs.Queued.{next_up}
+use Rattle.fw_choose.proofs.Choosing.{up_not, up_is}
+use Rattle.fw_choose.proofs.Opening.{agreed_number, up_open}
 use Rattle.fw_choose.proofs.passes.goes_up.Goals as goal
 
-pub returns-then-not-may_go_up-clause-act : goal.returns-then-not-may_go_up-clause-act
-returns-then-not-may_go_up-clause-act c = λ hand own.
-    up_not (self_of c.args.directory.now hand own) (node_of c.args.keeps.now) c.args.number
-    (sym (c.may_go_up.ensures hand own) ∙ c.if-not-may_go_up.true)
+pub returns-in_default-clause-act : goal.returns-in_default-clause-act
+returns-in_default-clause-act c = λ hand own.
+    let none : next_up c.args.keeps.now.settled ≡ None = sym c.next_up.ensures ∙ c.in_default.is in
+    up_not c.args.directory.now hand own c.args.keeps.now c.args.number (sym c.requires.1) (λ e. none-some _ (sym none ∙ e))
 
-pub returns-in_ok-copy_agreed-in-Some-clause-act : goal.returns-in_ok-copy_agreed-in-Some-clause-act
-returns-in_ok-copy_agreed-in-Some-clause-act c = λ hand own.
-    ap (λ a. Some (agree.Up (agreed_of a))) c.in_ok-copy_agreed-in-Some.ensures
-    ∙ up_if (self_of c.args.directory.now hand own) (node_of c.args.keeps.now) c.args.number (Some (agreed_of c.in-Some.agreed.now))
-    (sym (c.may_go_up.ensures hand own) ∙ c.if-not-may_go_up.false) c.in-Some.ensures.is
+pub returns-then-next-number-clause-act : goal.returns-then-next-number-clause-act
+returns-then-next-number-clause-act c = λ hand own.
+    let next : next_up c.args.keeps.now.settled ≡ Some c.in-Some.next = sym c.next_up.ensures ∙ c.in-Some.is in
+    up_not c.args.directory.now hand own c.args.keeps.now c.args.number (sym c.requires.1) (λ e. c.if-next-number.true (same_Some _ _ (sym next ∙ e)))
 
-pub returns-in_ok-copy_agreed-in-Some-clause-number : goal.returns-in_ok-copy_agreed-in-Some-clause-number
-returns-in_ok-copy_agreed-in-Some-clause-number c =
-    ap (λ (a : OwnedAgreed). a.number) c.in_ok-copy_agreed-in-Some.ensures
-    ∙ eqb-true _ _ (found_passes (λ a. nat_eq a.number c.args.number) c.args.keeps.now.committed c.in-Some.agreed.now c.in-Some.ensures.found)
+pub returns-in_ok-copy_agreed-in-Some-agreed_at-clause-act : goal.returns-in_ok-copy_agreed-in-Some-agreed_at-clause-act
+returns-in_ok-copy_agreed-in-Some-agreed_at-clause-act c = λ hand own.
+    let next : next_up c.args.keeps.now.settled ≡ Some c.args.number = sym c.next_up.ensures ∙ c.in-Some.is ∙ ap (λ (m : ℕ). Some m) c.if-next-number.false in
+    ap (λ (b : OwnedAgreed). Some (agree.Up (agreed_of b))) c.in_ok-copy_agreed-in-Some-agreed_at.ensures
+    ∙ up_is c.args.directory.now hand own c.args.keeps.now c.args.number c.in-Some-agreed_at.agreed.now (sym c.requires.1) next c.in-Some-agreed_at.ensures.found
 
-pub returns-in_ok-copy_agreed-in-Some-clause-signers : goal.returns-in_ok-copy_agreed-in-Some-clause-signers
-returns-in_ok-copy_agreed-in-Some-clause-signers c = λ all.
-    ap (λ (a : OwnedAgreed). length a.signers) c.in_ok-copy_agreed-in-Some.ensures
-    ∙ found_is_one (λ a. length a.signers ≡ quorum c.args.directory.now.params) (λ a. nat_eq a.number c.args.number) c.args.keeps.now.committed c.in-Some.agreed.now all c.in-Some.ensures.found
+pub returns-in_ok-copy_agreed-in-Some-agreed_at-clause-number : goal.returns-in_ok-copy_agreed-in-Some-agreed_at-clause-number
+returns-in_ok-copy_agreed-in-Some-agreed_at-clause-number c =
+    ap (λ (b : OwnedAgreed). b.number) c.in_ok-copy_agreed-in-Some-agreed_at.ensures ∙ agreed_number c.args.keeps.now c.args.number c.in-Some-agreed_at.agreed.now c.in-Some-agreed_at.ensures.found
+
+pub returns-in_ok-copy_agreed-in-Some-agreed_at-clause-signers : goal.returns-in_ok-copy_agreed-in-Some-agreed_at-clause-signers
+returns-in_ok-copy_agreed-in-Some-agreed_at-clause-signers c =
+    ap (λ (b : OwnedAgreed). length b.signers) c.in_ok-copy_agreed-in-Some-agreed_at.ensures ∙ c.in-Some-agreed_at.ensures.signers ∙ ap quorum c.requires.1
+
+pub returns-in_ok-copy_agreed-in-Some-agreed_at-clause-open : goal.returns-in_ok-copy_agreed-in-Some-agreed_at-clause-open
+returns-in_ok-copy_agreed-in-Some-agreed_at-clause-open c =
+    let next : next_up c.args.keeps.now.settled ≡ Some c.args.number = sym c.next_up.ensures ∙ c.in-Some.is ∙ ap (λ (m : ℕ). Some m) c.if-next-number.false in
+    up_open c.args.keeps.now c.args.number c.in-Some-agreed_at.agreed.now c.in_ok-copy_agreed-in-Some-agreed_at.field-0 c.in-Some-agreed_at.ensures.found next c.in_ok-copy_agreed-in-Some-agreed_at.ensures

@@ -4,7 +4,8 @@ use Rattle.std.specs.Option.{option_map}
 use Rattle.std.proofs.lemmas.Result.{IfOk-weaker}
 use Rattle.fw_hand.specs.Hands.{PlainHand}
 use Rattle.fw_rules.specs.Agree as agree
-use Rattle.fw_kept.specs.Kept.{self_of, node_of, act_of, entry_of}
+use Rattle.fw_kept.specs.Kept.{self_of, node_of, act_of}
+use Rattle.fw_kept.specs.Pieces.{entry_of}
 use Rattle.fw_choose.proofs.Choosing.{pledges_entry}
 use Rattle.fw_choose.proofs.passes.pledges.Goals as goal
 

@@ -2,7 +2,8 @@
 use Rattle.std.proofs.Common.{Some, None, map, ap, sym, ◌∙◌}
 use Rattle.std.specs.Option.{option_map}
 use Rattle.fw_rules.specs.Agree as agree
-use Rattle.fw_kept.specs.Kept.{self_of, node_of, entry_of, signer_of}
+use Rattle.fw_kept.specs.Kept.{self_of, node_of}
+use Rattle.fw_kept.specs.Pieces.{entry_of, signer_of}
 use Rattle.fw_choose.proofs.Choosing.{pledges_on}
 use Rattle.fw_choose.proofs.passes.pledges_cast.Goals as goal
 

@@ -2,8 +2,9 @@
 use Rattle.std.proofs.Common.{Some, None, refl, ap, sym, ◌∙◌}
 use Rattle.std.specs.Prelude.{is_some}
 use Rattle.fw_rules.specs.Agree as agree
-use Rattle.fw_kept.specs.Kept.{self_of, node_of, entry_of}
-use Rattle.fw_choose.proofs.Found.{copied_some}
+use Rattle.fw_kept.specs.Kept.{self_of, node_of}
+use Rattle.fw_kept.specs.Pieces.{entry_of}
+use Rattle.fw_kept.proofs.Found.{copied_some}
 use Rattle.fw_choose.proofs.Choosing.{prepares_primary, prepares_found}
 use Rattle.fw_choose.proofs.passes.prepares.Goals as goal
 

@@ -1,7 +1,7 @@
 use Rattle.std.proofs.Common.{◌≡◌, map, take}
 use Rattle.fw_frame.specs.Plain.{plain_signer}
 use Rattle.fw_frame.specs.View.{viewed_signer}
-use Rattle.fw_kept.specs.Kept.{signer_of}
+use Rattle.fw_kept.specs.Pieces.{signer_of}
 use Rattle.fw_kept.proofs.lent.lent_signers.Given as goal
 
 abbrev pub invariant-loop-signer : goal.invariant-loop-signer

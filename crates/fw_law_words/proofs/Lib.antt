@@ -1,0 +1,5 @@
+-- The files of lemmas.
+pub mod Tests
+pub mod Firsts
+pub mod Lists
+pub mod Roles
