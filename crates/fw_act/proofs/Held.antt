@@ -14,10 +14,10 @@ use Rattle.fw_rules.specs.Agree as agree
 use Rattle.fw_rules.specs.Agree.{Node, Self}
 use Rattle.fw_kept.specs.declared.keeps.Keeps.{Keeps}
 use Rattle.fw_kept.specs.Kept.{self_of, node_of}
-use Rattle.fw_kept.specs.declared.owned.OwnedReply.{OwnedReply}
-use Rattle.fw_kept.specs.Pieces.{reply_of}
-use Rattle.fw_kept.specs.Queued.{SettledNumbers, reply_in}
-use Rattle.fw_kept.proofs.Found.{found_at, copied_some}
+use Rattle.fw_owned.specs.declared.owned.OwnedReply.{OwnedReply}
+use Rattle.fw_owned.specs.Pieces.{reply_of}
+use Rattle.fw_settled.specs.Queued.{SettledNumbers, reply_in}
+use Rattle.fw_owned.proofs.Found.{found_at, copied_some}
 
 pub held_is : (held : List OwnedReply) (n : ℕ) (o : Option (Bor OwnedReply)) (b : Bool) → option_copied o ≡ reply_in held n → is_some o ≡ b → is_some (agree.reply_of (map reply_of held) n) ≡ b
 held_is held n o b is test =

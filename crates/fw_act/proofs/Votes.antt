@@ -1,24 +1,21 @@
--- A hand has the values of each of its votes in view 0.
-use Rattle.std.proofs.Common.{◌≡◌, ℕ, zero, suc, ◌<◌, ◌≤◌, List, map, None, refl, arith, IsTrue}
+-- A hand has the values of each of its votes.
+use Rattle.std.proofs.Common.{◌≡◌, ℕ, zero, suc, ◌<◌, ◌≤◌, List, map, None, refl}
 use Rattle.std.proofs.lemmas.Bool.{and_from, eq-eqb, lt-ltb, le-leb}
 use Rattle.fw_base.specs.declared.params.Params.{Params}
 use Rattle.fw_base.specs.declared.seat.Seat.TheVariants as seats
 use Rattle.fw_base.specs.declared.slot.Slot.TheVariants as slots
-use Rattle.fw_base.specs.Sizes.{accepted, agreements}
+use Rattle.fw_base.specs.Sizes.{agreements}
 use Rattle.fw_frame.specs.Parts.{vote_slot}
 use Rattle.fw_hand.specs.declared.hand.Held.{Held}
 use Rattle.fw_hand.specs.Hands.{slots_of, values_in}
 use Rattle.fw_means.proofs.Hands.{has-own}
 
-views-some : (p : Params) → IsTrue (accepted p) → 0 < p.views
-views-some p sizes = grind arith
-
-pub has-vote : (p : Params) (i phase n : ℕ) (held : List Held) → IsTrue (accepted p) → i < agreements p → 1 ≤ n → n ≤ p.numbers → map (λ h. h.slot) held ≡ slots_of p (seats.Agree i) → values_in held (vote_slot phase 0 n i) ≡ None → ⊥
-has-vote p i zero n held sizes agree first last own none =
+pub has-vote : (p : Params) (i phase v n : ℕ) (held : List Held) → i < agreements p → v < p.views → 1 ≤ n → n ≤ p.numbers → map (λ h. h.slot) held ≡ slots_of p (seats.Agree i) → values_in held (vote_slot phase v n i) ≡ None → ⊥
+has-vote p i zero v n held agree view first last own none =
     let small = lt-ltb i (agreements p) agree in
-    let fit = and_from _ _ (and_from _ _ (lt-ltb 0 p.views (views-some p sizes)) (and_from _ _ (le-leb 1 n first) (le-leb n p.numbers last))) small in
-    has-own p (seats.Agree i) (slots.Prepare 0 n i) held small fit (eq-eqb i i refl) own none
-has-vote p i (suc k) n held sizes agree first last own none =
+    let fit = and_from _ _ (and_from _ _ (lt-ltb v p.views view) (and_from _ _ (le-leb 1 n first) (le-leb n p.numbers last))) small in
+    has-own p (seats.Agree i) (slots.Prepare v n i) held small fit (eq-eqb i i refl) own none
+has-vote p i (suc k) v n held agree view first last own none =
     let small = lt-ltb i (agreements p) agree in
-    let fit = and_from _ _ (and_from _ _ (lt-ltb 0 p.views (views-some p sizes)) (and_from _ _ (le-leb 1 n first) (le-leb n p.numbers last))) small in
-    has-own p (seats.Agree i) (slots.Commit 0 n i) held small fit (eq-eqb i i refl) own none
+    let fit = and_from _ _ (and_from _ _ (lt-ltb v p.views view) (and_from _ _ (le-leb 1 n first) (le-leb n p.numbers last))) small in
+    has-own p (seats.Agree i) (slots.Commit v n i) held small fit (eq-eqb i i refl) own none

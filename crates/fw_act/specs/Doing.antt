@@ -1,16 +1,14 @@
--- What an agreement node needs to do an act: its hand, and an act of the deployment. And who gets what it sends.
-use Rattle.std.specs.Prelude.{ℕ, ◌≡◌, ◌<◌, ◌≤◌, not, nat_eq, List, [], ◌∷◌, ◌++◌, length, map, filter, All, IsTrue}
+-- What an agreement node needs to do an act: its hand. And who gets what it sends.
+use Rattle.std.specs.Prelude.{ℕ, ◌≡◌, ◌<◌, not, nat_eq, List, [], ◌∷◌, ◌++◌, length, map, filter, All, IsTrue}
 use Rattle.fw_list.specs.Lists.{numbers_from}
 use Rattle.fw_list.specs.declared.limits.TheConstants.{ROW_LEN}
 use Rattle.fw_base.specs.declared.params.Params.{Params}
 use Rattle.fw_base.specs.declared.seat.Seat.{Seat}
 use Rattle.fw_base.specs.declared.seat.Seat.TheVariants as seats
-use Rattle.fw_base.specs.Sizes.{accepted, agreements, quorum}
+use Rattle.fw_base.specs.Sizes.{accepted, agreements}
 use Rattle.fw_hand.specs.Hands.{PlainHand, slots_of, clients_of}
 use Rattle.fw_frame.specs.View.{Vote}
 use Rattle.fw_rules.specs.Agree.{Node}
-use Rattle.fw_kept.specs.declared.keeps.Act.{Act}
-use Rattle.fw_kept.specs.declared.keeps.Act.TheVariants as act
 
 -- its hand is an agreement node's of the deployment: the values of each of its slots, and no keys
 pub record IsAgreements (p : Params) (i : ℕ) (hand : PlainHand) : Type 0 where
@@ -20,18 +18,6 @@ pub record IsAgreements (p : Params) (i : ℕ) (hand : PlainHand) : Type 0 where
   pub slots : map (λ h. h.slot) hand.held ≡ slots_of p (seats.Agree i)
   pub whole : All (λ h. length h.values ≡ ROW_LEN) hand.held
   pub keys : map (λ k. k.client) hand.keys ≡ clients_of p (seats.Agree i)
-
--- a number of the deployment's list
-abbrev pub IsNumber : Params → ℕ → Type 0
-IsNumber p n = (1 ≤ n) × (n ≤ p.numbers)
-
--- what is voted for has a number of the list, and what is agreed has a quorum of signers
-abbrev pub IsDoable : Params → Act → Type 0
-IsDoable p (act.Offer number entry) = IsNumber p number
-IsDoable p (act.Prepare number entry) = IsNumber p number
-IsDoable p (act.Pledge number entry signers) = IsNumber p number
-IsDoable p (act.Commit agreed) = length agreed.signers ≡ quorum p
-IsDoable p (act.Up agreed) = Unit {0}
 
 -- all agreement nodes but one
 abbrev pub others : Params → ℕ → List Seat

@@ -11,15 +11,16 @@ ghost use Rattle.fw_frame.specs.View.{Replies, viewed_request, viewed_entry, vie
 ghost use Rattle.fw_means.specs.Means.{written};
 ghost use Rattle.fw_rules.specs.Agree as agree;
 ghost use Rattle.fw_kept.specs.Kept.{self_of, node_of, IsFor};
-ghost use Rattle.fw_kept.specs.Pieces.{request_of, reply_of};
+ghost use Rattle.fw_owned.specs.Pieces.{request_of, reply_of};
 ghost use Rattle.fw_act.specs.Doing.{with_vote};
 
 use fw_base::Seat;
 use fw_directory::Directory;
 use fw_frame::{Entry, Request, entry_digest};
-use fw_kept::{Keeps, OwnedEntry, OwnedPropose, OwnedReply, OwnedRequest, OwnedVote};
+use fw_kept::Keeps;
 use fw_list::{Bytes, Memory};
 use fw_node::{Outbox, Sent};
+use fw_owned::{OwnedEntry, OwnedPropose, OwnedReply, OwnedRequest, OwnedVote};
 use std::alloc::Global;
 
 /// Whether a request is this one, whatever its signature is.

@@ -1,4 +1,4 @@
-//! What an agreement node does in view 0: the acts that it has chosen, and what it keeps of the frames that it hears.
+//! What an agreement node does in its view: the acts that it has chosen, and what it keeps of the frames that it hears.
 #![tactic(auto)]
 
 mod acting;

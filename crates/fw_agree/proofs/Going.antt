@@ -6,14 +6,9 @@ use Rattle.std.proofs.Math.ListN.{drop_of_length-le}
 use Rattle.fw_list.specs.Lists.{numbers_from}
 use Rattle.fw_node.specs.Histories.{Out}
 use Rattle.fw_frame.specs.View.{Request}
-use Rattle.fw_directory.specs.Directories.{PlainDirectory}
-use Rattle.fw_hand.specs.Hands.{PlainHand}
 use Rattle.fw_rules.specs.Agree as agree
 use Rattle.fw_rules.specs.Agree.{Node, Self, Step, acted, for_each}
-use Rattle.fw_kept.specs.declared.keeps.Keeps.{Keeps}
-use Rattle.fw_kept.specs.Kept.{self_of, node_of}
-use Rattle.fw_choose.proofs.NoChoice.{no_choices}
-use Rattle.fw_agree.specs.Steps.{at, behind}
+use Rattle.fw_agree.specs.Steps.{behind}
 
 abbrev pub Chooses : Type 0 → Type 0
 Chooses A = Node → A → Option agree.Act
@@ -82,17 +77,25 @@ passes_behind me out s =
     ∙ ap (agree.commits_and_sends me) (two_behind me (agree.prepares me) (agree.pledges me) out (agree.makes_offers me s))
     ∙ two_behind me (agree.commits me) (agree.goes_up me) out (agree.casts_votes me (agree.makes_offers me s))
 
--- ---- there is no choice in view 0
-
-pub only_requests : (d : PlainDirectory) (hand : PlainHand) (own : ℕ) (keeps : Keeps) (out : Out) → agree.makes_offers (self_of d hand own) (at keeps out) ≡ for_each (self_of d hand own) (agree.offers_request (self_of d hand own)) (node_of keeps).heard.requests (at keeps out)
-only_requests d hand own keeps out =
-    ap (for_each (self_of d hand own) (agree.offers_request (self_of d hand own)) (node_of keeps).heard.requests) (no_choices d hand own keeps out)
-
 -- ---- all passes, one after another
 
-pub passes_chain : (me : Self (List ℕ)) (s s1 s2 s3 s4 s5 : Step (List ℕ)) → s1 ≡ agree.makes_offers me s → s2 ≡ for_each me (agree.prepares me) (agree.numbers me) s1 → s3 ≡ for_each me (agree.pledges me) (agree.numbers me) s2
-    → s4 ≡ for_each me (agree.commits me) (agree.numbers me) s3 → s5 ≡ for_each me (agree.goes_up me) (agree.numbers me) s4 → s5 ≡ agree.passes me s
-passes_chain me s s1 s2 s3 s4 s5 e1 e2 e3 e4 e5 =
+pub passes_chain : (me : Self (List ℕ)) (s s0 s1 s2 s3 s4 s5 : Step (List ℕ)) → s0 ≡ for_each me (agree.offers_choice me) (agree.numbers me) s → s1 ≡ for_each me (agree.offers_request me) s.0.heard.requests s0
+    → s2 ≡ for_each me (agree.prepares me) (agree.numbers me) s1 → s3 ≡ for_each me (agree.pledges me) (agree.numbers me) s2 → s4 ≡ for_each me (agree.commits me) (agree.numbers me) s3 → s5 ≡ for_each me (agree.goes_up me) (agree.numbers me) s4
+    → s5 ≡ agree.passes me s
+passes_chain me s s0 s1 s2 s3 s4 s5 e0 e1 e2 e3 e4 e5 =
     e5 ∙ ap (for_each me (agree.goes_up me) (agree.numbers me)) e4
     ∙ ap (agree.commits_and_sends me) (e3 ∙ ap (for_each me (agree.pledges me) (agree.numbers me)) e2)
-    ∙ ap (λ t. agree.commits_and_sends me (agree.casts_votes me t)) e1
+    ∙ ap (λ t. agree.commits_and_sends me (agree.casts_votes me t)) (e1 ∙ ap (for_each me (agree.offers_request me) s.0.heard.requests) e0)
+
+-- what is offered leaves the requests
+pub acted_requests : (me : Self (List ℕ)) (s : Step (List ℕ)) (act : Option agree.Act) → (acted me s act).0.heard.requests ≡ s.0.heard.requests
+acted_requests me s None = refl
+acted_requests me s (Some (agree.Offer n entry)) = refl
+acted_requests me s (Some (agree.Prepare n entry)) = refl
+acted_requests me s (Some (agree.Pledge_to n entry signers)) = refl
+acted_requests me s (Some (agree.Commit agreed)) = refl
+acted_requests me s (Some (agree.Up agreed)) = refl
+
+pub each_requests : {A : Type 0} (me : Self (List ℕ)) (f : Chooses A) (xs : List A) (s : Step (List ℕ)) → (for_each me f xs s).0.heard.requests ≡ s.0.heard.requests
+each_requests me f [] s = refl
+each_requests me f (x ∷ xs) s = each_requests me f xs (acted me s (f s.0 x)) ∙ acted_requests me s (f s.0 x)

@@ -19,9 +19,9 @@ use Rattle.fw_means.specs.Means.{written, admitted_by}
 use Rattle.fw_node.specs.Histories.{Out}
 use Rattle.fw_rules.specs.Agree as agree
 use Rattle.fw_rules.specs.Agree.{Node, Self, Step}
-use Rattle.fw_kept.specs.declared.owned.OwnedReply.{OwnedReply}
+use Rattle.fw_owned.specs.declared.owned.OwnedReply.{OwnedReply}
 use Rattle.fw_kept.specs.Kept.{self_of}
-use Rattle.fw_kept.specs.Pieces.{reply_of}
+use Rattle.fw_owned.specs.Pieces.{reply_of}
 use Rattle.fw_agree.specs.Steps.{behind, behind_some, HasDigest}
 use Rattle.fw_agree.proofs.Going.{passes_behind}
 

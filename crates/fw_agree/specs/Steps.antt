@@ -29,6 +29,7 @@ if_heard true s = Some s
 
 -- what is chosen at a number in a pass
 abbrev pub chooses : Pass → Self (List ℕ) → Node → ℕ → Option agree.Act
+chooses pass.Choices me x n = agree.offers_choice me x n
 chooses pass.Prepares me x n = agree.prepares me x n
 chooses pass.Pledges me x n = agree.pledges me x n
 chooses pass.Commits me x n = agree.commits me x n

@@ -27,7 +27,7 @@ use std::alloc::Global;
 use std::marker::Model;
 use std::sync::ledger::Ledger;
 
-/// The node of an agreement node. It stays in view 0.
+/// The node of an agreement node. It stays in view 0 so far: it ignores ticks, view changes and new views.
 #[derive(Drop)]
 pub struct AgreeNode {
     alloc: Global,
@@ -79,9 +79,7 @@ impl AgreeNode {
     pub fn view(&self) -> u32
         ensures { (d : PlainDirectory) (h : History) → ⟦<AgreeNode as Node>⟧.stands_for self.now d h → result ≡ (keeps_after self.now d h).own.view }
     {
-        // (what it keeps is in view 0)
-        let _keeps = &self.keeps;
-        0
+        self.keeps.view
     }
 }
 

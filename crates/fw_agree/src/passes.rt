@@ -7,13 +7,13 @@ ghost use Rattle.fw_base.specs.Sizes.{accepted};
 ghost use Rattle.fw_hand.specs.Hands.{PlainHand};
 ghost use Rattle.fw_rules.specs.Agree as agree;
 ghost use Rattle.fw_kept.specs.Kept.{self_of, node_of, act_of, IsFor};
-ghost use Rattle.fw_kept.specs.Pieces.{request_of};
-ghost use Rattle.fw_choose.specs.Acts.{IsOpen};
-ghost use Rattle.fw_act.specs.Doing.{IsAgreements, IsDoable};
+ghost use Rattle.fw_owned.specs.Pieces.{request_of};
+ghost use Rattle.fw_kept.specs.Acts.{IsDoable, IsOpen};
+ghost use Rattle.fw_act.specs.Doing.{IsAgreements};
 ghost use Rattle.fw_agree.specs.Steps.{at, chooses};
 
 use fw_act::performs;
-use fw_choose::{commits, goes_up, offers_request, pledges, prepares};
+use fw_choose::{commits, goes_up, offers_choice, offers_request, pledges, prepares};
 use fw_directory::Directory;
 use fw_hand::Hand;
 use fw_kept::{Act, Keeps};
@@ -24,6 +24,8 @@ use std::alloc::Global;
 /// A pass over the numbers of the list.
 #[derive(Clone, Copy, Debug, PartialEq, Eq)]
 pub enum Pass {
+    /// Proposals of what the view's new view chooses.
+    Choices,
     /// Prepare votes.
     Prepares,
     /// Commit votes.
@@ -52,7 +54,8 @@ fn chosen(
     ensures open { IfOk result (λ act. IfSome act (IsOpen keeps.now)) }
 {
     match pass {
-        Pass::Prepares => prepares(alloc, own, keeps, number),
+        Pass::Choices => offers_choice(alloc, directory, own, keeps, number),
+        Pass::Prepares => prepares(alloc, directory, own, keeps, number),
         Pass::Pledges => pledges(alloc, directory, keeps, number),
         Pass::Commits => commits(alloc, directory, keeps, number),
         Pass::Ups => goes_up(alloc, directory, keeps, number),
@@ -127,7 +130,7 @@ fn offered(
 }
 
 /// Goes over the remembered requests: each that waits is proposed.
-fn makes_offers(
+fn offers_requests(
     alloc: Global,
     directory: &Directory,
     own: u32,
@@ -137,7 +140,7 @@ fn makes_offers(
 ) -> Result<(), Memory>
     requires hand { IsAgreements directory.now.params own hand.now }
     requires for_sizes { IsFor directory.now.params keeps.old }
-    ensures step { OnOk result (at keeps.new out.new ≡ agree.makes_offers (self_of directory.now hand.now own) (at keeps.old out.old)) }
+    ensures step { OnOk result (let me = self_of directory.now hand.now own in at keeps.new out.new ≡ agree.for_each me (agree.offers_request me) (map request_of keeps.old.requests) (at keeps.old out.old)) }
     ensures sizes { (p : Params) → IsFor p keeps.old → IsFor p keeps.new }
     ensures begins { take (length out.old) out.new ≡ out.old }
 {
@@ -163,7 +166,8 @@ pub(crate) fn passes(
     ensures sizes { (p : Params) → IsFor p keeps.old → IsFor p keeps.new }
     ensures begins { take (length out.old) out.new ≡ out.old }
 {
-    makes_offers(alloc, directory, own, hand, keeps, out)?;
+    goes_over(alloc, directory, own, hand, keeps, Pass::Choices, out)?;
+    offers_requests(alloc, directory, own, hand, keeps, out)?;
     goes_over(alloc, directory, own, hand, keeps, Pass::Prepares, out)?;
     goes_over(alloc, directory, own, hand, keeps, Pass::Pledges, out)?;
     goes_over(alloc, directory, own, hand, keeps, Pass::Commits, out)?;

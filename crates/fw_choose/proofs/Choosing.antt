@@ -1,14 +1,19 @@
 -- The rule's choices, from what each look-up found.
 use Rattle.std.proofs.Common.{◌≡◌, ℕ, ◌+◌, ◌≤◌, List, [], ◌∷◌, Bool, true, false, ◌&&◌, not, Option, Some, None, refl, sym, ap, ◌∙◌, nat_eq, nat_lt, nat_le, map, inl, inr, arith}
-use Rattle.std.specs.Prelude.{is_some}
+use Rattle.std.specs.Prelude.{is_some, bytes_eq, if◌then◌else◌}
 use Rattle.std.specs.List.{find, list_any}
 use Rattle.std.specs.Option.{option_map}
-use Rattle.std.proofs.lemmas.Bool.{cases_Bool, lt-ltb, eq-eqb, eqb-true}
+use Rattle.std.proofs.lemmas.Bool.{cases_Bool, lt-ltb, le-ltb, leb-true, leb-false, eq-eqb, eqb-true}
 use Rattle.std.proofs.lemmas.Option.{same_Some}
 use Rattle.fw_list.specs.Lists.{numbers_from}
 use Rattle.fw_base.specs.declared.params.Params.{Params}
 use Rattle.fw_trace.specs.Lists.{first_at}
-use Rattle.fw_frame.specs.View.{Request, Entry, Signer, Vote, Agreed}
+use Rattle.fw_frame.specs.declared.frame.Signer as lent
+use Rattle.fw_frame.specs.Plain.{plain_signer}
+use Rattle.fw_frame.specs.View.{Request, Entry, Signer, Propose, Change, Vote, Agreed, viewed_signer}
+use Rattle.fw_pbft.specs.Tallies.{seen_signer}
+use Rattle.fw_text.specs.Texts.{Hash}
+use Rattle.fw_adopted.specs.Plans.{last_of, planned}
 use Rattle.fw_directory.specs.Directories.{PlainDirectory}
 use Rattle.fw_hand.specs.Hands.{PlainHand}
 use Rattle.fw_means.specs.Means.{when}
@@ -16,13 +21,27 @@ use Rattle.fw_rules.specs.Agree as agree
 use Rattle.fw_rules.specs.Agree.{Self, Node}
 use Rattle.fw_rules.specs.Signing.{entry_digest}
 use Rattle.fw_rules.specs.Choices.{first_some}
-use Rattle.fw_kept.specs.declared.owned.OwnedPropose.{OwnedPropose}
+use Rattle.fw_owned.specs.declared.owned.OwnedPropose.{OwnedPropose}
 use Rattle.fw_kept.specs.declared.keeps.Keeps.{Keeps}
 use Rattle.fw_kept.specs.Kept.{self_of, node_of, cast_of}
-use Rattle.fw_kept.specs.Pieces.{propose_of, entry_of, agreed_of, reply_of}
-use Rattle.fw_kept.specs.Queued.{SettledNumbers, agreed_in, replied_in, next_up}
-use Rattle.fw_kept.specs.declared.owned.OwnedAgreed.{OwnedAgreed}
-use Rattle.fw_kept.proofs.Found.{found, found_at}
+use Rattle.fw_owned.specs.Pieces.{propose_of, entry_of, agreed_of, reply_of}
+use Rattle.fw_settled.specs.Queued.{SettledNumbers, agreed_in, replied_in, next_up}
+use Rattle.fw_owned.specs.declared.owned.OwnedAgreed.{OwnedAgreed}
+use Rattle.fw_owned.proofs.Found.{found, found_at}
+
+-- ---- signers
+
+pub signers_seen : (signers : List lent.Signer) → map viewed_signer (map plain_signer signers) ≡ map seen_signer signers
+signers_seen [] = refl
+signers_seen (s ∷ signers) = ap (λ (all : List Signer). seen_signer s ∷ all) (signers_seen signers)
+
+-- ---- numbers in order
+
+not_lt : (n t : ℕ) → nat_le n t ≡ true → nat_lt t n ≡ false
+not_lt n t e = le-ltb t n (leb-true n t e)
+
+is_lt : (n t : ℕ) → nat_le n t ≡ false → nat_lt t n ≡ true
+is_lt n t e = lt-ltb t n (leb-false n t e)
 
 -- ---- proposals
 
@@ -30,9 +49,11 @@ not_not : (b : Bool) → not (not b) ≡ b
 not_not true = refl
 not_not false = refl
 
--- a request that is neither cast, nor agreed, nor answered
-pub waits : (d : PlainDirectory) (hand : PlainHand) (own : ℕ) (k : Keeps) (r : Request) (free : Bool) → list_any (λ c. nat_eq c.view 0 && agree.has_request r.client r.stamp c.entry) (map cast_of k.casts) ≡ false → list_any (λ a. agree.has_request r.client r.stamp a.entry) (map agreed_of k.settled.committed) ≡ false → is_some (agree.reply_to (self_of d hand own) (node_of k) r.client r.stamp) ≡ not free → free ≡ agree.is_waiting (self_of d hand own) (node_of k) r
-waits d hand own k r free cast agreed answered = rw cast (rw agreed (rw answered (sym (not_not free))))
+-- a request that is neither cast, nor chosen, nor agreed, nor answered
+pub waits : (d : PlainDirectory) (hand : PlainHand) (own : ℕ) (k : Keeps) (r : Request) (free : Bool) → list_any (λ c. nat_eq c.view k.view && agree.has_request r.client r.stamp c.entry) (map cast_of k.casts) ≡ false
+    → list_any (λ n. agree.has_request r.client r.stamp (agree.choice (last_of k.adopted) n)) (numbers_from 1 (agree.top (last_of k.adopted))) ≡ false
+    → list_any (λ a. agree.has_request r.client r.stamp a.entry) (map agreed_of k.settled.committed) ≡ false → is_some (agree.reply_to (self_of d hand own) (node_of k) r.client r.stamp) ≡ not free → free ≡ agree.is_waiting (self_of d hand own) (node_of k) r
+waits d hand own k r free cast chosen agreed answered = rw cast (rw chosen (rw agreed (rw answered (sym (not_not free)))))
 
 pub offers_none : {M : Type 0} (me : Self M) (x : Node) (r : Request) → x.own.active ≡ true → agree.is_primary me x ≡ false → None ≡ agree.offers_request me x r
 offers_none me x r active e = rw active (rw e refl)
@@ -43,29 +64,64 @@ offers_taken me x r active e waits = rw active (rw e (rw waits refl))
 pub offers_one : {M : Type 0} (me : Self M) (x : Node) (r : Request) → x.own.active ≡ true → agree.is_primary me x ≡ true → agree.is_waiting me x r ≡ true → nat_le (agree.next_number x) me.means.params.numbers ≡ true → Some (agree.Offer (agree.next_number x) (r ∷ [])) ≡ agree.offers_request me x r
 offers_one me x r active e waits fits = rw active (rw e (rw waits (rw fits refl)))
 
+-- ---- what a new view chooses
+
+pub choice_other : {M : Type 0} (me : Self M) (x : Node) (n : ℕ) → x.own.active ≡ true → agree.is_primary me x ≡ false → None ≡ agree.offers_choice me x n
+choice_other me x n active e = rw active (rw e refl)
+
+-- what is planned is proposed, and nothing else
+planned_act : (n : ℕ) (changes : List Change) (o : Option Entry) → o ≡ planned changes n → option_map (agree.Offer n) o ≡ when (nat_le n (agree.top changes) && true) (Some (agree.Offer n (agree.choice changes n)))
+planned_act n changes o is = elim (cases_Bool (nat_le n (agree.top changes))) [
+  | inl within ↦
+      let found : o ≡ Some (agree.choice changes n) = rw within at is in
+      rw within (ap (option_map (agree.Offer n)) found)
+  | inr above ↦
+      let found : o ≡ None = rw above at is in
+      rw above (ap (option_map (agree.Offer n)) found)
+]
+
+pub choice_made : {M : Type 0} (me : Self M) (x : Node) (n : ℕ) (o : Option Entry) → x.own.active ≡ true → agree.is_primary me x ≡ true → is_some (agree.cast_at x x.own.view n) ≡ false → o ≡ planned (agree.chosen x) n
+    → option_map (agree.Offer n) o ≡ agree.offers_choice me x n
+choice_made me x n o active e cast is = rw active (rw e (rw cast (planned_act n (agree.chosen x) o is)))
+
 -- ---- prepare votes
 
 pub prepares_primary : {M : Type 0} (me : Self M) (x : Node) (n : ℕ) → x.own.active ≡ true → agree.is_primary me x ≡ true → None ≡ agree.prepares me x n
 prepares_primary me x n active e = rw active (rw e refl)
 
-prepares_first : {M : Type 0} (me : Self M) (x : Node) (n : ℕ) (act : Option agree.Act) → x.own.active ≡ true → agree.is_primary me x ≡ false → is_some (agree.cast_at x x.own.view n) ≡ false → act ≡ first_some (agree.prepares_one me x n) x.heard.proposals → act ≡ agree.prepares me x n
+pub prepares_first : {M : Type 0} (me : Self M) (x : Node) (n : ℕ) (act : Option agree.Act) → x.own.active ≡ true → agree.is_primary me x ≡ false → is_some (agree.cast_at x x.own.view n) ≡ false → act ≡ first_some (agree.prepares_one me x n) x.heard.proposals → act ≡ agree.prepares me x n
 prepares_first me x n act active e cast is = rw active (rw e (rw cast is))
 
-and_true : {A : Type 0} (a b : Bool) (x : Option A) → when (a && b && true) x ≡ when (a && b) x
-and_true true true x = refl
-and_true true false x = refl
-and_true false b x = refl
+pub may_here : {M : Type 0} (me : Self M) (x : Node) (n : ℕ) (m : Propose) → agree.may_prepare me x n m ≡ true → Some (agree.Prepare n m.entry) ≡ agree.prepares_one me x n m
+may_here me x n m e = rw e refl
 
-prepares_finds : (d : PlainDirectory) (hand : PlainHand) (own : ℕ) (k : Keeps) (n : ℕ) → 1 ≤ n → (m : OwnedPropose) → agree.prepares_one (self_of d hand own) (node_of k) n (propose_of m) ≡ when (nat_eq m.view 0 && nat_eq m.number n) (Some (agree.Prepare n (entry_of m.entry)))
-prepares_finds d hand own k n first m =
-    let above : nat_lt 0 n ≡ true = lt-ltb 0 n (omega arith) in
-    rw above (and_true (nat_eq m.view 0) (nat_eq m.number n) (Some (agree.Prepare n (entry_of m.entry))))
+pub may_not : {M : Type 0} (me : Self M) (x : Node) (n : ℕ) (m : Propose) → agree.may_prepare me x n m ≡ false → is_some (agree.prepares_one me x n m) ≡ false
+may_not me x n m e = rw e refl
 
-pub prepares_found : (d : PlainDirectory) (hand : PlainHand) (own : ℕ) (k : Keeps) (n : ℕ) (o : Option OwnedPropose) → 1 ≤ n → agree.is_primary (self_of d hand own) (node_of k) ≡ false → is_some (agree.cast_at (node_of k) 0 n) ≡ false → o ≡ find (λ m. nat_eq m.view 0 && nat_eq m.number n) k.proposals → option_map (λ m. agree.Prepare n (entry_of m.entry)) o ≡ agree.prepares (self_of d hand own) (node_of k) n
-prepares_found d hand own k n o first e cast is =
-    prepares_first (self_of d hand own) (node_of k) n (option_map (λ m. agree.Prepare n (entry_of m.entry)) o) refl e cast
-    (ap (option_map (λ m. agree.Prepare n (entry_of m.entry))) is
-    ∙ found propose_of (agree.prepares_one (self_of d hand own) (node_of k) n) (λ m. nat_eq m.view 0 && nat_eq m.number n) (λ m. agree.Prepare n (entry_of m.entry)) (prepares_finds d hand own k n first) k.proposals)
+-- an entry at a number at which one is planned
+pub allowed_choice : (changes : List Change) (n : ℕ) (digest : List ℕ) (hash : Hash) (e : Entry) (b : Bool) → Some e ≡ planned changes n → b ≡ bytes_eq digest (entry_digest hash e)
+    → b ≡ (if nat_lt (agree.top changes) n then true else bytes_eq digest (entry_digest hash (agree.choice changes n)))
+allowed_choice changes n digest hash e b is here = elim (cases_Bool (nat_le n (agree.top changes))) [
+  | inl within ↦
+      let found : Some e ≡ Some (agree.choice changes n) = rw within at is in
+      let under : nat_lt (agree.top changes) n ≡ false = not_lt n (agree.top changes) within in
+      rw under (here ∙ ap (λ a. bytes_eq digest (entry_digest hash a)) (same_Some _ _ found))
+  | inr past ↦
+      let found : Some e ≡ None = rw past at is in
+      absurd (let no : ⊥ = cc in no)
+]
+
+-- an entry at a number above the plan
+pub allowed_above : (changes : List Change) (n : ℕ) (digest : List ℕ) (hash : Hash) → None ≡ planned changes n
+    → true ≡ (if nat_lt (agree.top changes) n then true else bytes_eq digest (entry_digest hash (agree.choice changes n)))
+allowed_above changes n digest hash is = elim (cases_Bool (nat_le n (agree.top changes))) [
+  | inl within ↦
+      let found : None ≡ Some (agree.choice changes n) = rw within at is in
+      absurd (let no : ⊥ = cc in no)
+  | inr past ↦
+      let over : nat_lt (agree.top changes) n ≡ true = is_lt n (agree.top changes) past in
+      rw over refl
+]
 
 -- ---- commit votes
 

@@ -1,5 +1,4 @@
 -- The files of lemmas.
 pub mod Numbered
 pub mod Choosing
-pub mod NoChoice
 pub mod Opening

@@ -5,7 +5,7 @@ use Rattle.fw_list.specs.Lists.{numbers_from}
 use Rattle.fw_frame.specs.View.{Reply}
 use Rattle.fw_rules.specs.Agree.{reply_of, replied_up_to}
 use Rattle.fw_rules.specs.Choices.{first_some}
-use Rattle.fw_kept.proofs.Found.{passed, taken}
+use Rattle.fw_owned.proofs.Found.{passed, taken}
 
 -- nothing is found at the first that is left
 pub first_next : {B : Type 0} (f : ℕ → Option B) (n k end : ℕ) → k < end → is_some (f n) ≡ false → first_some f (numbers_from (n + 1) (end - (k + 1))) ≡ first_some f (numbers_from n (end - k))

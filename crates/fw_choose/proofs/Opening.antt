@@ -5,13 +5,13 @@ use Rattle.std.specs.Borrow.{Bor}
 use Rattle.std.specs.Option.{option_copied}
 use Rattle.std.proofs.lemmas.Bool.{eqb-true}
 use Rattle.fw_list.specs.declared.memory.Memory.{Memory}
-use Rattle.fw_kept.specs.declared.owned.OwnedAgreed.{OwnedAgreed}
+use Rattle.fw_owned.specs.declared.owned.OwnedAgreed.{OwnedAgreed}
 use Rattle.fw_kept.specs.declared.keeps.Keeps.{Keeps}
 use Rattle.fw_kept.specs.declared.keeps.Act.{Act}
 use Rattle.fw_kept.specs.declared.keeps.Act.TheVariants as act
-use Rattle.fw_kept.specs.Queued.{agreed_in, next_up}
-use Rattle.fw_kept.proofs.Found.{found_passes}
-use Rattle.fw_choose.specs.Acts.{number_of, IsOpen, IsCommit}
+use Rattle.fw_settled.specs.Queued.{agreed_in, next_up}
+use Rattle.fw_owned.proofs.Found.{found_passes}
+use Rattle.fw_kept.specs.Acts.{number_of, IsOpen, IsCommit}
 
 commit_open : (k : Keeps) (n : ℕ) (a : Act) → agreed_in k.settled.committed n ≡ None → IsCommit a → number_of a ≡ n → IsOpen k a
 commit_open k n (act.Commit agreed) none is number = subst (λ m. agreed_in k.settled.committed m ≡ None) (sym number) none

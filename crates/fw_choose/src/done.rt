@@ -6,11 +6,13 @@ ghost use Rattle.std.specs.Option.{option_copied, option_map};
 ghost use Rattle.fw_rules.specs.Agree as agree;
 ghost use Rattle.fw_rules.specs.Choices.{first_some};
 ghost use Rattle.fw_kept.specs.Kept.{cast_of, pledge_of};
-ghost use Rattle.fw_kept.specs.Pieces.{entry_of, agreed_of};
+ghost use Rattle.fw_owned.specs.Pieces.{entry_of, agreed_of};
 
 use crate::entries::has_request;
-use fw_kept::{Cast, OwnedAgreed, OwnedEntry, Pledge, Settled};
+use fw_kept::{Cast, Pledge};
 use fw_list::Newest;
+use fw_owned::{OwnedAgreed, OwnedEntry};
+use fw_settled::Settled;
 
 /// The last of these at a number, in a view.
 fn last_cast(casts: &[Cast], view: u32, number: u32) -> Option<&Cast>

@@ -6,10 +6,10 @@ ghost use Rattle.std.specs.Option.{option_copied, option_map};
 ghost use Rattle.fw_text.specs.Texts.{hash};
 ghost use Rattle.fw_rules.specs.Agree as agree;
 ghost use Rattle.fw_rules.specs.Signing as signing;
-ghost use Rattle.fw_kept.specs.Pieces.{entry_of};
+ghost use Rattle.fw_owned.specs.Pieces.{entry_of};
 
 use fw_frame::entry_digest;
-use fw_kept::OwnedEntry;
+use fw_owned::OwnedEntry;
 
 /// The digest of an entry, which votes name.
 pub(crate) fn digest_of(entry: &OwnedEntry) -> [u8; 32]

@@ -1,5 +1,5 @@
-//! The choices of an agreement node in view 0, by what it keeps: which request it proposes, what it votes for at a number, what is
-//! agreed there, and which number goes up. They change nothing.
+//! The choices of an agreement node in its view, by what it keeps: what it proposes, what it votes for at a number, what is agreed
+//! there, and which number goes up. They change nothing.
 #![tactic(auto)]
 
 mod done;
@@ -9,6 +9,6 @@ mod passes;
 mod replies;
 mod votes;
 
-pub use offers::{law_no_choice, offers_request};
+pub use offers::{offers_choice, offers_request};
 pub use passes::{commits, goes_up, pledges, prepares};
 pub use replies::reply_to;

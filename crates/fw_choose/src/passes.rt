@@ -1,50 +1,89 @@
 //! Votes, what is agreed, and what goes up.
 
-ghost use Rattle.std.specs.Prelude.{◌≡◌, ◌≤◌, ◌+◌, ◌&&◌, ℕ, Some, All, length, map, nat_eq, nat_le, IfOk, IfSome};
-ghost use Rattle.std.specs.List.{find};
+ghost use Rattle.std.specs.Prelude.{◌≡◌, ◌≤◌, ℕ, Some, true, map, nat_lt, bytes_eq, IfOk, IfSome, IsTrue, if◌then◌else◌};
 ghost use Rattle.std.specs.Option.{option_copied, option_map};
-ghost use Rattle.fw_base.specs.declared.params.Params.{Params};
-ghost use Rattle.fw_base.specs.Sizes.{quorum};
+ghost use Rattle.fw_base.specs.Sizes.{accepted};
 ghost use Rattle.fw_directory.specs.Directories.{PlainDirectory};
 ghost use Rattle.fw_hand.specs.Hands.{PlainHand};
 ghost use Rattle.fw_rules.specs.Agree as agree;
 ghost use Rattle.fw_kept.specs.Kept.{self_of, node_of, act_of, IsFor};
-ghost use Rattle.fw_kept.specs.Pieces.{entry_of, propose_of, vote_of};
-ghost use Rattle.fw_choose.specs.Acts.{number_of, IsSigned, IsOpen, IsCommit};
+ghost use Rattle.fw_owned.specs.Pieces.{entry_of, propose_of, vote_of};
+ghost use Rattle.fw_kept.specs.Acts.{number_of, IsOpen, IsCommit};
+ghost use Rattle.fw_adopted.specs.Plans.{last_of};
+ghost use Rattle.fw_text.specs.Texts.{hash};
+ghost use Rattle.fw_rules.specs.Signing as signing;
+ghost use Rattle.fw_rules.specs.Choices.{first_some};
 
 use crate::done::{cast_at, has_pledged};
 use crate::entries::{digest_of, seen_of};
 use crate::offers::is_primary;
 use crate::votes::vote_quorum;
+use fw_adopted::Adoptions;
 use fw_directory::Directory;
-use fw_kept::{Act, Keeps, OwnedAgreed, OwnedEntry, OwnedPropose, OwnedVote, copy_signers};
+use fw_kept::{Act, Keeps};
 use fw_list::Memory;
+use fw_owned::{OwnedAgreed, OwnedEntry, OwnedPropose, OwnedVote, copy_signers};
 use std::alloc::Global;
 
-/// The first of these that is of a number, in view 0.
-fn first_proposal(proposals: &[OwnedPropose], number: u32) -> Option<&OwnedPropose>
-    ensures { option_copied result ≡ find (λ m. nat_eq m.view 0 && nat_eq m.number number) proposals.now }
+/// Whether an entry is what its new view chooses at a number, or the number is above all of its proofs.
+fn is_allowed(adopted: &Adoptions, number: u32, entry: &OwnedEntry) -> bool
+    requires { 1 ≤ number }
+    ensures { let changes = last_of adopted.now in result ≡ (if nat_lt (agree.top changes) number then true else bytes_eq (signing.entry_digest hash (entry_of entry.now)) (signing.entry_digest hash (agree.choice changes number))) }
 {
-    proposals
-        .iter()
-        .find(|propose| propose.view == 0 && propose.number == number)
+    match adopted.choice_at(number) {
+        Some(chosen) => digest_of(entry) == digest_of(chosen),
+        None => true,
+    }
 }
 
-/// A prepare vote for the first proposal of a number, where this node isn't the primary and has cast nothing there.
-pub fn prepares(alloc: Global, own: u32, keeps: &Keeps, number: u32) -> Result<Option<Act>, Memory>
+/// Whether it may vote to prepare a proposal at a number.
+fn may_prepare(keeps: &Keeps, number: u32, propose: &OwnedPropose) -> bool
     requires { 1 ≤ number }
-    ensures act { IfOk result (λ act. (d : PlainDirectory) (hand : PlainHand) → option_map act_of act ≡ agree.prepares (self_of d hand own) (node_of keeps.now) number) }
+    ensures { (d : PlainDirectory) (hand : PlainHand) (own : ℕ) → result ≡ agree.may_prepare (self_of d hand own) (node_of keeps.now) number (propose_of propose.now) }
+{
+    propose.view == keeps.view
+        && propose.number == number
+        && is_allowed(&keeps.adopted, number, &propose.entry)
+}
+
+/// The first of the proposals that it may vote to prepare at a number.
+fn first_proposal(keeps: &Keeps, number: u32) -> Option<&OwnedPropose>
+    requires { 1 ≤ number }
+    ensures { (d : PlainDirectory) (hand : PlainHand) (own : ℕ) → option_map (λ m. agree.Prepare number (propose_of m).entry) (option_copied result) ≡ first_some (agree.prepares_one (self_of d hand own) (node_of keeps.now) number) (map propose_of keeps.now.proposals) }
+{
+    for propose in keeps.proposals.items() {
+        if may_prepare(keeps, number, propose) {
+            return Some(propose);
+        }
+    }
+    None
+}
+
+/// A prepare vote for the first proposal of a number that follows its new view, where its view has begun, and this node isn't the primary
+/// and has cast nothing there.
+pub fn prepares(
+    alloc: Global,
+    directory: &Directory,
+    own: u32,
+    keeps: &Keeps,
+    number: u32,
+) -> Result<Option<Act>, Memory>
+    requires sizes { IsTrue (accepted directory.now.params) }
+    requires first { 1 ≤ number }
+    ensures act { IfOk result (λ act. (hand : PlainHand) → option_map act_of act ≡ agree.prepares (self_of directory.now hand own) (node_of keeps.now) number) }
     ensures number { IfOk result (λ act. IfSome act (λ a. number_of a ≡ number)) }
-    ensures signers { (p : Params) → IfOk result (λ act. IfSome act (IsSigned p)) }
     ensures open { IfOk result (λ act. IfSome act (IsOpen keeps.now)) }
 {
-    if is_primary(own) {
+    if !keeps.active {
         return Ok(None);
     }
-    if cast_at(&keeps.casts, 0, number).is_some() {
+    if is_primary(directory, own, keeps) {
         return Ok(None);
     }
-    match first_proposal(keeps.proposals.items(), number) {
+    if cast_at(&keeps.casts, keeps.view, number).is_some() {
+        return Ok(None);
+    }
+    match first_proposal(keeps, number) {
         Some(propose) => {
             let entry = propose.entry.copy(alloc)?;
             Ok(Some(Act::Prepare { number, entry }))
@@ -64,11 +103,10 @@ fn pledges_cast(
     requires { IsFor directory.now.params keeps.now }
     ensures act { IfOk result (λ act. (hand : PlainHand) (own : ℕ) → option_map act_of act ≡ agree.pledges_cast (self_of directory.now hand own) (node_of keeps.now) number (Some (entry_of entry.now))) }
     ensures number { IfOk result (λ act. IfSome act (λ a. number_of a ≡ number)) }
-    ensures signers { IfOk result (λ act. IfSome act (IsSigned directory.now.params)) }
     ensures open { IfOk result (λ act. IfSome act (IsOpen keeps.now)) }
 {
     let digest = digest_of(entry);
-    match vote_quorum(alloc, directory, keeps, 0, 0, number, &digest)? {
+    match vote_quorum(alloc, directory, keeps, 0, keeps.view, number, &digest)? {
         Some(signers) => {
             let entry = entry.copy(alloc)?;
             Ok(Some(Act::Pledge {
@@ -81,7 +119,8 @@ fn pledges_cast(
     }
 }
 
-/// A commit vote for what was cast at a number, where a quorum has prepared it and this node hasn't voted to commit there.
+/// A commit vote for what was cast at a number, where the view has begun, a quorum has prepared it, and this node hasn't voted to commit
+/// there.
 pub fn pledges(
     alloc: Global,
     directory: &Directory,
@@ -91,13 +130,12 @@ pub fn pledges(
     requires { IsFor directory.now.params keeps.now }
     ensures act { IfOk result (λ act. (hand : PlainHand) (own : ℕ) → option_map act_of act ≡ agree.pledges (self_of directory.now hand own) (node_of keeps.now) number) }
     ensures number { IfOk result (λ act. IfSome act (λ a. number_of a ≡ number)) }
-    ensures signers { IfOk result (λ act. IfSome act (IsSigned directory.now.params)) }
     ensures open { IfOk result (λ act. IfSome act (IsOpen keeps.now)) }
 {
-    if has_pledged(&keeps.pledges, 0, number) {
+    if !keeps.active || has_pledged(&keeps.pledges, keeps.view, number) {
         return Ok(None);
     }
-    match cast_at(&keeps.casts, 0, number) {
+    match cast_at(&keeps.casts, keeps.view, number) {
         Some(entry) => pledges_cast(alloc, directory, keeps, number, entry),
         None => Ok(None),
     }
@@ -115,7 +153,6 @@ fn commits_by(
     requires { IsFor directory.now.params keeps.now }
     ensures act { IfOk result (λ act. (hand : PlainHand) (own : ℕ) → option_map act_of act ≡ agree.commits_by (self_of directory.now hand own) (node_of keeps.now) view number (vote_of vote.now)) }
     ensures number { IfOk result (λ act. IfSome act (λ a. number_of a ≡ number)) }
-    ensures signers { IfOk result (λ act. IfSome act (IsSigned directory.now.params)) }
     ensures commit { IfOk result (λ act. IfSome act IsCommit) }
 {
     if vote.phase != 1 || vote.view != view || vote.number != number {
@@ -147,7 +184,6 @@ fn commits_in(
     requires { IsFor directory.now.params keeps.now }
     ensures act { IfOk result (λ act. (hand : PlainHand) (own : ℕ) → option_map act_of act ≡ agree.commits_in (self_of directory.now hand own) (node_of keeps.now) number view) }
     ensures number { IfOk result (λ act. IfSome act (λ a. number_of a ≡ number)) }
-    ensures signers { IfOk result (λ act. IfSome act (IsSigned directory.now.params)) }
     ensures commit { IfOk result (λ act. IfSome act IsCommit) }
 {
     for vote in keeps.votes.items() {
@@ -169,7 +205,6 @@ pub fn commits(
     requires { IsFor directory.now.params keeps.now }
     ensures act { IfOk result (λ act. (hand : PlainHand) (own : ℕ) → option_map act_of act ≡ agree.commits (self_of directory.now hand own) (node_of keeps.now) number) }
     ensures number { IfOk result (λ act. IfSome act (λ a. number_of a ≡ number)) }
-    ensures signers { IfOk result (λ act. IfSome act (IsSigned directory.now.params)) }
     ensures open { IfOk result (λ act. IfSome act (IsOpen keeps.now)) }
 {
     if keeps.settled.agreed_at(number).is_some() {
@@ -192,7 +227,7 @@ fn copy_agreed(alloc: Global, agreed: &OwnedAgreed) -> Result<OwnedAgreed, Memor
         view: agreed.view,
         number: agreed.number,
         entry: agreed.entry.copy(alloc)?,
-        signers: copy_signers(alloc, agreed.signers.items())?,
+        signers: copy_signers(alloc, &agreed.signers)?,
     })
 }
 
@@ -206,7 +241,6 @@ pub fn goes_up(
     requires { IsFor directory.now.params keeps.now }
     ensures act { IfOk result (λ act. (hand : PlainHand) (own : ℕ) → option_map act_of act ≡ agree.goes_up (self_of directory.now hand own) (node_of keeps.now) number) }
     ensures number { IfOk result (λ act. IfSome act (λ a. number_of a ≡ number)) }
-    ensures signers { IfOk result (λ act. IfSome act (IsSigned directory.now.params)) }
     ensures open { IfOk result (λ act. IfSome act (IsOpen keeps.now)) }
 {
     // (the sizes are those that are kept)

@@ -7,10 +7,12 @@ ghost use Rattle.fw_hand.specs.Hands.{PlainHand};
 ghost use Rattle.fw_rules.specs.Agree as agree;
 ghost use Rattle.fw_rules.specs.Choices.{first_some};
 ghost use Rattle.fw_kept.specs.Kept as kept;
-ghost use Rattle.fw_kept.specs.Pieces as pieces;
+ghost use Rattle.fw_owned.specs.Pieces as pieces;
 
 use fw_directory::Directory;
-use fw_kept::{Keeps, OwnedReply, Settled};
+use fw_kept::Keeps;
+use fw_owned::OwnedReply;
+use fw_settled::Settled;
 
 /// Whether a reply of a number answers a client's stamp.
 fn is_reply_to(reply: &OwnedReply, client: u32, stamp: u32, number: u32) -> bool

@@ -1,15 +1,20 @@
-//! What an agreement node keeps in view 0, and the acts that it chooses.
+//! What an agreement node keeps, and the acts that it chooses.
 
 ghost use Rattle.std.specs.Prelude.{◌≡◌, IfOk, IsTrue};
 ghost use Rattle.fw_base.specs.Sizes.{accepted};
 ghost use Rattle.fw_rules.specs.Agree.{new_node};
 ghost use Rattle.fw_kept.specs.Kept.{node_of, IsFor};
 
-use crate::{
-    Known, OwnedAgreed, OwnedEntry, OwnedProof, OwnedPropose, OwnedRequest, OwnedSigners, Settled,
-};
+use fw_adopted::Adoptions;
 use fw_base::Params;
+use fw_heard::Heard;
+use fw_known::Known;
 use fw_list::{Bytes, Items, Memory, Newest};
+use fw_owned::{
+    OwnedAgreed, OwnedChange, OwnedEntry, OwnedNewView, OwnedProof, OwnedPropose, OwnedRequest,
+    OwnedSigners,
+};
+use fw_settled::Settled;
 use std::alloc::Global;
 
 /// A prepare vote or a proposal that it made.
@@ -28,22 +33,30 @@ pub struct Pledge {
     pub digest: Bytes,
 }
 
-/// What it keeps: the requests and proposals that it heard, in order; what it did, the newest first; the votes that it knows and the
-/// entries that it has seen, in order; and the numbers that are agreed or answered.
+/// What it keeps: the requests, proposals, view changes and new views that it heard, in order; its view, and whether that has begun; for
+/// how many ticks it has waited; what it did, the newest first; the votes that it knows and the entries that it has seen, in order;
+/// and the numbers that are agreed or answered.
 #[derive(Drop)]
 pub struct Keeps {
     pub requests: Items<OwnedRequest>,
     pub proposals: Items<OwnedPropose>,
+    pub changes: Heard,
+    pub new_views: Items<OwnedNewView>,
+    pub view: u32,
+    pub active: bool,
+    pub idle: u32,
     pub casts: Newest<Cast>,
     pub pledges: Newest<Pledge>,
     pub proofs: Newest<OwnedProof>,
+    pub moves: Newest<OwnedChange>,
+    pub adopted: Adoptions,
     pub votes: Known,
     pub seen: Items<OwnedEntry>,
     pub settled: Settled,
 }
 
 impl Keeps {
-    /// Nothing heard and nothing done; null is seen.
+    /// Nothing heard and nothing done, in view 0; null is seen.
     pub fn new(alloc: Global, params: &Params) -> Result<Keeps, Memory>
         requires { IsTrue (accepted params.now) }
         ensures new { IfOk result (λ keeps. node_of keeps ≡ new_node) }
@@ -54,9 +67,16 @@ impl Keeps {
         Ok(Keeps {
             requests: Items::new(alloc),
             proposals: Items::new(alloc),
+            changes: Heard::new(alloc, params)?,
+            new_views: Items::new(alloc),
+            view: 0,
+            active: true,
+            idle: 0,
             casts: Newest::new(alloc),
             pledges: Newest::new(alloc),
             proofs: Newest::new(alloc),
+            moves: Newest::new(alloc),
+            adopted: Adoptions::new(alloc),
             votes: Known::new(alloc, params)?,
             seen,
             settled: Settled::new(alloc, params)?,

@@ -1,5 +1,5 @@
 -- What an agreement node keeps has short pieces, and so has each act that it chooses.
-use Rattle.std.proofs.Common.{ℕ, nat_eq, nat_lt, List, [], ◌∷◌, take, All, Option, Some, None, arith}
+use Rattle.std.proofs.Common.{ℕ, ◌≤◌, nat_eq, nat_lt, List, [], ◌∷◌, length, take, All, Option, Some, None, arith}
 use Rattle.std.specs.Prelude.{IfSome}
 use Rattle.std.proofs.lemmas.List.{length-take}
 use Rattle.std.proofs.lemmas.List.Elements.{All-nil, All-cons, All-head, All-tail, All-filter, All-take}
@@ -7,9 +7,9 @@ use Rattle.fw_list.specs.Lists.{numbers_from}
 use Rattle.fw_base.specs.declared.params.Params.{Params}
 use Rattle.fw_base.specs.Sizes.{quorum}
 use Rattle.fw_text.specs.Texts.{Hash}
-use Rattle.fw_frame.specs.View.{Request, Entry, Signer, Proof, Propose, Vote, Agreed, Reply, Proposes, Votes, Agrees, Replies}
+use Rattle.fw_frame.specs.View.{Request, Entry, Signer, Proof, NewView, Propose, Vote, Agreed, Reply, Proposes, Votes, Begins, Agrees, Replies}
 use Rattle.fw_rules.specs.Signing.{entry_digest}
-use Rattle.fw_rules.specs.Agree.{Node, Self, Cast, Adopted, Act, Offer, Prepare, Pledge_to, Commit, Up, nodes, numbers, reply_if, reply_at, reply_to, signer_if, signer_of, signers_of, enough, vote_quorum, cast_if, cast_at, agreed_at, last_changes, chosen, all_proofs, better, best, proofs_of, entry_or_null, choice, offers_choice, offers_request, next_number, prepares_one, prepares, pledge_of, pledges_cast, pledges, seen_if, seen_of, commit_with, commits_by, commits_in, commits, up_of, goes_up}
+use Rattle.fw_rules.specs.Agree.{Node, Self, Cast, Pledge, Adopted, Act, Offer, Prepare, Pledge_to, Commit, Up, nodes, numbers, reply_if, reply_at, reply_to, signer_if, signer_of, signers_of, enough, vote_quorum, cast_if, cast_at, agreed_at, last_changes, chosen, all_proofs, better, best, proofs_of, entry_or_null, choice, offers_choice, offers_request, next_number, prepares_one, prepares, pledge_of, pledges_cast, pledges, seen_if, seen_of, commit_with, commits_by, commits_in, commits, up_of, goes_up}
 use Rattle.fw_rules.specs.Choices.{first_some}
 use Rattle.fw_lengths.proofs.Pieces.{IsShortRequest, IsShortEntry, IsShortSigner, AreShortSigners, IsShortProof, IsShortChange, IsShort}
 use Rattle.fw_lengths.proofs.Options.{all_any, when-if, cond-if, first_some-if, first_at-if, found-all, flat-all}
@@ -26,8 +26,14 @@ IsShortAgreed p a = IsShort p (Agrees a)
 abbrev pub IsShortReply : Params → Reply → Type 0
 IsShortReply p r = IsShort p (Replies r)
 
+abbrev pub IsShortNewView : Params → NewView → Type 0
+IsShortNewView p n = IsShort p (Begins n)
+
 abbrev pub IsShortCast : Cast → Type 0
 IsShortCast c = IsShortEntry c.entry
+
+abbrev pub IsShortPledge : Pledge → Type 0
+IsShortPledge c = length c.digest ≤ 32
 
 abbrev pub IsShortAdopted : Params → Adopted → Type 0
 IsShortAdopted p a = All (IsShortChange p) a.changes
@@ -36,9 +42,13 @@ IsShortAdopted p a = All (IsShortChange p) a.changes
 pub record Fitting (p : Params) (x : Node) : Type 0 where
   pub requests : All IsShortRequest x.heard.requests
   pub proposals : All (IsShortPropose p) x.heard.proposals
+  pub changes : All (IsShortChange p) x.heard.changes
+  pub new_views : All (IsShortNewView p) x.heard.new_views
   pub held : All (IsShortReply p) x.heard.held
   pub casts : All IsShortCast x.own.casts
+  pub pledges : All IsShortPledge x.own.pledges
   pub proofs : All (IsShortProof p) x.own.proofs
+  pub moves : All (IsShortChange p) x.own.moves
   pub adopted : All (IsShortAdopted p) x.own.adopted
   pub votes : All (IsShortVote p) x.votes
   pub seen : All IsShortEntry x.seen
@@ -65,22 +75,23 @@ signer-found p votes short phase view number digest i =
     first_some-if (signer_if phase view number digest i) (IsShortVote p) IsShortSigner
     (λ v one. when-if IsShortSigner _ (Some (record { agree = i; sig = v.sig })) one.1) votes short
 
-enough-if : (me : Self (List ℕ)) (signers : List Signer) → All IsShortSigner signers → IfSome (enough me signers) (AreShortSigners me.means.params)
-enough-if me signers short =
-    let count = length-take (quorum me.means.params) signers in
-    when-if (AreShortSigners me.means.params) _ (Some (take (quorum me.means.params) signers))
-    (omega arith, All-take IsShortSigner (quorum me.means.params) signers short)
+-- as many as a quorum has, where all that were found are of a kind
+pub enough-if : {A : Type 0} (me : Self (List ℕ)) (P : A → Type 0) (found : List A) → All P found → IfSome (enough me found) (λ xs. (length xs ≤ quorum me.means.params) × All P xs)
+enough-if me P found short =
+    let count = length-take (quorum me.means.params) found in
+    when-if (λ xs. (length xs ≤ quorum me.means.params) × All P xs) _ (Some (take (quorum me.means.params) found))
+    (omega arith, All-take P (quorum me.means.params) found short)
 
 pub quorum-if : (me : Self (List ℕ)) (x : Node) → Fitting me.means.params x → (phase view number : ℕ) (digest : List ℕ) → IfSome (vote_quorum me x phase view number digest) (AreShortSigners me.means.params)
 quorum-if me x f phase view number digest =
-    enough-if me (signers_of me x phase view number digest)
+    enough-if me IsShortSigner (signers_of me x phase view number digest)
     (found-all (signer_of x.votes phase view number digest) IsShortSigner (signer-found me.means.params x.votes f.votes phase view number digest) (nodes me.means.params))
 
-cast-if : (p : Params) (x : Node) → Fitting p x → (view n : ℕ) → IfSome (cast_at x view n) IsShortEntry
+pub cast-if : (p : Params) (x : Node) → Fitting p x → (view n : ℕ) → IfSome (cast_at x view n) IsShortEntry
 cast-if p x f view n =
     first_some-if (cast_if view n) IsShortCast IsShortEntry (λ c short. when-if IsShortEntry _ (Some c.entry) short) x.own.casts f.casts
 
-agreed-if : (p : Params) (x : Node) → Fitting p x → (n : ℕ) → IfSome (agreed_at x n) (IsShortAgreed p)
+pub agreed-if : (p : Params) (x : Node) → Fitting p x → (n : ℕ) → IfSome (agreed_at x n) (IsShortAgreed p)
 agreed-if p x f n = first_at-if (λ (a : Agreed). (a.number, a)) (IsShortAgreed p) (IsShortAgreed p) (λ a short. short) n x.committed f.committed
 
 -- ---- the choice
@@ -93,7 +104,7 @@ better-if : (p : Params) (q : Proof) (o : Option Proof) → IsShortProof p q →
 better-if p q None one other = one
 better-if p q (Some r) one other = cond-if (IsShortProof p) (nat_lt q.view r.view) (Some r) (Some q) other one
 
-best-if : (p : Params) (proofs : List Proof) → All (IsShortProof p) proofs → IfSome (best proofs) (IsShortProof p)
+pub best-if : (p : Params) (proofs : List Proof) → All (IsShortProof p) proofs → IfSome (best proofs) (IsShortProof p)
 best-if p [] short = tt
 best-if p (q ∷ proofs) short =
     better-if p q (best proofs) (All-head (IsShortProof p) q proofs short) (best-if p proofs (All-tail (IsShortProof p) q proofs short))

@@ -2,3 +2,6 @@
 pub mod Fitting
 pub mod Stepping
 pub mod Agreeing
+pub mod Turning
+pub mod Ticking
+pub mod Viewing

@@ -21,7 +21,7 @@ use Rattle.fw_lengths.specs.Lengths.{HasFrameLength}
 use Rattle.fw_lengths.proofs.Pieces.{IsShortRequest, IsShortEntry, AreShortSigners, IsShortProof, IsShort, AreForClients, IsForClients}
 use Rattle.fw_lengths.proofs.Options.{all_below, all_more}
 use Rattle.fw_lengths.proofs.Signed.{IsShortMeans}
-use Rattle.fw_sendable.proofs.Fitting.{IsShortPropose, IsShortVote, IsShortAgreed, IsShortReply, IsShortCast, Fitting, FitAct, FitChoice, reply-if}
+use Rattle.fw_sendable.proofs.Fitting.{IsShortPropose, IsShortVote, IsShortAgreed, IsShortReply, IsShortCast, IsShortPledge, Fitting, FitAct, FitChoice, reply-if}
 
 -- what is kept is short, and what was sent can be sent
 abbrev pub FitStep : Params → Step (List ℕ) → Type 0
@@ -52,11 +52,11 @@ row0-sendable me frame long =
 
 -- ---- acts
 
-own_vote-short : (me : Self (List ℕ)) → IsShortMeans me.means → (phase view n : ℕ) (entry : Entry) → IsShortVote me.means.params (own_vote me phase view n (entry_digest me.means.hash entry))
+pub own_vote-short : (me : Self (List ℕ)) → IsShortMeans me.means → (phase view n : ℕ) (entry : Entry) → IsShortVote me.means.params (own_vote me phase view n (entry_digest me.means.hash entry))
 own_vote-short me k phase view n entry =
     (k.hashes _, k.signs (vote_slot phase view n me.own) 0 (Voted phase view n (entry_digest me.means.hash entry)))
 
-own_proposal-short : (me : Self (List ℕ)) → IsShortMeans me.means → (view n : ℕ) (entry : Entry) → IsShortEntry entry → IsShortPropose me.means.params (own_proposal me view n entry)
+pub own_proposal-short : (me : Self (List ℕ)) → IsShortMeans me.means → (view n : ℕ) (entry : Entry) → IsShortEntry entry → IsShortPropose me.means.params (own_proposal me view n entry)
 own_proposal-short me k view n entry short = (short, (own_vote-short me k 0 view n entry).1)
 
 offer-fit : (me : Self (List ℕ)) → IsShortMeans me.means → (x : Node) → Fitting me.means.params x → (n : ℕ) (entry : Entry) → IsShortEntry entry → FitStep me.means.params (performs me x (Offer n entry))
@@ -66,9 +66,13 @@ offer-fit me k x f n entry short =
       record {
         requests = f.requests;
         proposals = f.proposals;
+        changes = f.changes;
+        new_views = f.new_views;
         held = f.held;
         casts = All-cons IsShortCast (record { view = x.own.view; number = n; entry = entry }) x.own.casts short f.casts;
+        pledges = f.pledges;
         proofs = f.proofs;
+        moves = f.moves;
         adopted = f.adopted;
         votes = all_more (IsShortVote p) x.votes vote f.votes (own_vote-short me k 0 x.own.view n entry);
         seen = all_more IsShortEntry x.seen entry f.seen short;
@@ -85,9 +89,13 @@ prepare-fit me k x f n entry short =
       record {
         requests = f.requests;
         proposals = f.proposals;
+        changes = f.changes;
+        new_views = f.new_views;
         held = f.held;
         casts = All-cons IsShortCast (record { view = x.own.view; number = n; entry = entry }) x.own.casts short f.casts;
+        pledges = f.pledges;
         proofs = f.proofs;
+        moves = f.moves;
         adopted = f.adopted;
         votes = all_more (IsShortVote p) x.votes vote f.votes vote_short;
         seen = f.seen;
@@ -104,9 +112,13 @@ pledge-fit me k x f n entry signers short few =
       record {
         requests = f.requests;
         proposals = f.proposals;
+        changes = f.changes;
+        new_views = f.new_views;
         held = f.held;
         casts = f.casts;
+        pledges = All-cons IsShortPledge (record { view = x.own.view; number = n; digest = entry_digest me.means.hash entry }) x.own.pledges (k.hashes _) f.pledges;
         proofs = All-cons (IsShortProof p) (record { view = x.own.view; number = n; entry = entry; signers = signers }) x.own.proofs (short, few) f.proofs;
+        moves = f.moves;
         adopted = f.adopted;
         votes = all_more (IsShortVote p) x.votes vote f.votes vote_short;
         seen = f.seen;
@@ -120,9 +132,13 @@ commit-fit me x f agreed short = (
   record {
     requests = f.requests;
     proposals = f.proposals;
+    changes = f.changes;
+    new_views = f.new_views;
     held = f.held;
     casts = f.casts;
+    pledges = f.pledges;
     proofs = f.proofs;
+    moves = f.moves;
     adopted = f.adopted;
     votes = f.votes;
     seen = f.seen;
@@ -136,9 +152,13 @@ up-fit me k x f agreed short = (
   record {
     requests = f.requests;
     proposals = f.proposals;
+    changes = f.changes;
+    new_views = f.new_views;
     held = f.held;
     casts = f.casts;
+    pledges = f.pledges;
     proofs = f.proofs;
+    moves = f.moves;
     adopted = f.adopted;
     votes = f.votes;
     seen = f.seen;
@@ -176,9 +196,13 @@ remembered-fit p x r f short = elim (cases_Bool (list_any (same_request r) x.hea
       rw fresh (record {
         requests = all_more IsShortRequest x.heard.requests r f.requests short;
         proposals = f.proposals;
+        changes = f.changes;
+        new_views = f.new_views;
         held = f.held;
         casts = f.casts;
+        pledges = f.pledges;
         proofs = f.proofs;
+        moves = f.moves;
         adopted = f.adopted;
         votes = f.votes;
         seen = all_more IsShortEntry x.seen (r ∷ []) f.seen (All-cons IsShortRequest r [] short (All-nil IsShortRequest));
@@ -200,9 +224,13 @@ reply-fit me k x f r short clients = elim (cases_Bool (is_some (reply_of x.heard
         record {
           requests = f.requests;
           proposals = f.proposals;
+          changes = f.changes;
+          new_views = f.new_views;
           held = All-cons (IsShortReply me.means.params) r x.heard.held short f.held;
           casts = f.casts;
+          pledges = f.pledges;
           proofs = f.proofs;
+          moves = f.moves;
           adopted = f.adopted;
           votes = f.votes;
           seen = f.seen;
@@ -218,9 +246,13 @@ proposal-fit me k x f m short =
     record {
       requests = f.requests;
       proposals = all_more (IsShortPropose p) x.heard.proposals m f.proposals short;
+      changes = f.changes;
+      new_views = f.new_views;
       held = f.held;
       casts = f.casts;
+      pledges = f.pledges;
       proofs = f.proofs;
+      moves = f.moves;
       adopted = f.adopted;
       votes = all_more (IsShortVote p) x.votes (primary_vote p me.means.hash m) f.votes (k.hashes _, short.1);
       seen = all_more IsShortEntry x.seen m.entry f.seen short.0;
@@ -231,9 +263,13 @@ vote-fit : (p : Params) (x : Node) → Fitting p x → (v : Vote) → IsShortVot
 vote-fit p x f v short = record {
   requests = f.requests;
   proposals = f.proposals;
+  changes = f.changes;
+  new_views = f.new_views;
   held = f.held;
   casts = f.casts;
+  pledges = f.pledges;
   proofs = f.proofs;
+  moves = f.moves;
   adopted = f.adopted;
   votes = all_more (IsShortVote p) x.votes v f.votes short;
   seen = f.seen;
@@ -254,9 +290,13 @@ pub start-fit : (p : Params) → Fitting p new_node
 start-fit p = record {
   requests = All-nil _;
   proposals = All-nil _;
+  changes = All-nil _;
+  new_views = All-nil _;
   held = All-nil _;
   casts = All-nil _;
+  pledges = All-nil _;
   proofs = All-nil _;
+  moves = All-nil _;
   adopted = All-nil _;
   votes = All-nil _;
   seen = All-cons IsShortEntry [] [] (All-nil IsShortRequest) (All-nil IsShortEntry);

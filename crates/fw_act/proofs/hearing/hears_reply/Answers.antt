@@ -6,9 +6,9 @@ use Rattle.std.proofs.lemmas.Result.{on_ok_weaker}
 use Rattle.fw_frame.specs.View.{Given, Reply, Replies, viewed_answers}
 use Rattle.fw_means.specs.Means.{written}
 use Rattle.fw_node.specs.Histories.{Out}
-use Rattle.fw_kept.specs.declared.owned.OwnedReply.{OwnedReply}
+use Rattle.fw_owned.specs.declared.owned.OwnedReply.{OwnedReply}
 use Rattle.fw_kept.specs.Kept.{self_of, node_of}
-use Rattle.fw_kept.specs.Queued.{reply_in}
+use Rattle.fw_settled.specs.Queued.{reply_in}
 use Rattle.fw_act.proofs.Held.{held_is, in_is, again_kept, again_sent, first_kept, first_sent, same_reply, one_answer}
 use Rattle.fw_act.proofs.hearing.hears_reply.Goals as goal
 

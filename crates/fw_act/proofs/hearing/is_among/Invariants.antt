@@ -4,7 +4,7 @@ use Rattle.std.specs.List.{list_any}
 use Rattle.fw_frame.specs.Plain.{plain_request}
 use Rattle.fw_frame.specs.View.{viewed_request}
 use Rattle.fw_rules.specs.Agree as agree
-use Rattle.fw_kept.specs.Pieces.{request_of}
+use Rattle.fw_owned.specs.Pieces.{request_of}
 use Rattle.fw_act.proofs.hearing.is_among.Given as goal
 
 abbrev pub invariant-loop-one : goal.invariant-loop-one

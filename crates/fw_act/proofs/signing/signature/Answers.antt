@@ -8,5 +8,5 @@ pub unreachable-requires : goal.unreachable-requires
 unreachable-requires c =
     let hand = c.requires.hand in
     let held = c.args.hand.now.held in
-    has-vote c.args.directory.now.params c.args.own c.args.phase c.args.number held hand.sizes hand.agree c.requires.number.0 c.requires.number.1 hand.slots
+    has-vote c.args.directory.now.params c.args.own c.args.phase c.args.view c.args.number held hand.agree c.requires.view c.requires.number.0 c.requires.number.1 hand.slots
     (subst (λ slot. values_in held slot ≡ None) c.vote_slot.ensures c.in-None.ensures.none)

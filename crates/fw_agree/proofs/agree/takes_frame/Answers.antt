@@ -51,3 +51,9 @@ returns-clause-step g c =
     let heard : behind_some c.args.out.now (hears me x c.args.from f) ≡ if_heard c.in_ok-hears.field-0 was = rw c.frame.ensures at (c.in_ok-hears.ensures.step c.args.hand.now c.args.own) in
     let is : behind_some c.args.out.now (hears me x c.args.from f) ≡ None = heard ∙ ap (λ b. if_heard b was) c.if-branch.false in
     ignored_then me x c.args.from f from c.args.out.now was found is (c.in_ok-hears.ensures.ignored c.if-branch.false)
+
+pub passes-requires-clause-for_sizes : goal.passes-requires-clause-for_sizes
+passes-requires-clause-for_sizes g c = c.hears.ensures.sizes c.args.directory.now.params c.requires.for_sizes
+
+pub returns-then-branch-clause-sizes : goal.returns-then-branch-clause-sizes
+returns-then-branch-clause-sizes g c = λ p was. c.passes.ensures.sizes p (c.hears.ensures.sizes p was)

@@ -8,10 +8,11 @@ use Rattle.fw_kept.specs.Kept.{self_of, node_of, act_of}
 use Rattle.fw_agree.proofs.Doable.{doable_ok}
 use Rattle.fw_agree.proofs.passes.chosen.Goals as goal
 
+pub returns-in-Choices-clause-doable : goal.returns-in-Choices-clause-doable
+returns-in-Choices-clause-doable c = doable_ok c.args.directory.now.params c.args.number c.offers_choice.result c.requires.first c.requires.last c.offers_choice.ensures.number
+
 pub returns-in-Prepares-clause-doable : goal.returns-in-Prepares-clause-doable
-returns-in-Prepares-clause-doable c =
-    let p = c.args.directory.now.params in
-    doable_ok p c.args.number c.prepares.result c.requires.first c.requires.last c.prepares.ensures.number (c.prepares.ensures.signers p)
+returns-in-Prepares-clause-doable c = doable_ok c.args.directory.now.params c.args.number c.prepares.result c.requires.first c.requires.last c.prepares.ensures.number
 
 pub returns-in-Ups-clause-act : goal.returns-in-Ups-clause-act
 returns-in-Ups-clause-act c =
@@ -23,4 +24,7 @@ returns-in-Ups-clause-act c =
 
 pub returns-in-Ups-clause-doable : goal.returns-in-Ups-clause-doable
 returns-in-Ups-clause-doable c =
-    doable_ok c.args.directory.now.params c.args.number c.goes_up.result c.requires.first c.requires.last c.goes_up.ensures.number c.goes_up.ensures.signers
+    doable_ok c.args.directory.now.params c.args.number c.goes_up.result c.requires.first c.requires.last c.goes_up.ensures.number
+
+pub returns-in-Choices-clause-act : goal.returns-in-Choices-clause-act
+returns-in-Choices-clause-act c = rw c.in-Choices.is c.offers_choice.ensures.act

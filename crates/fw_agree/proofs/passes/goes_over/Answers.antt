@@ -20,3 +20,12 @@ loop-k-preserved c =
       sizes = λ p was. c.does.ensures.sizes p (c.loop-k.invariant.sizes p was);
       begins = begins_on c.args.out.now c.loop-k.out c.does.new.out c.loop-k.invariant.begins c.in_ok-does.ensures.begins;
     }
+
+pub chosen-requires-clause-for_sizes : goal.chosen-requires-clause-for_sizes
+chosen-requires-clause-for_sizes c = c.loop-k.invariant.sizes c.args.directory.now.params c.requires.for_sizes
+
+pub does-requires-clause-for_sizes : goal.does-requires-clause-for_sizes
+does-requires-clause-for_sizes c = c.loop-k.invariant.sizes c.args.directory.now.params c.requires.for_sizes
+
+pub returns-in_err-does-clause-sizes : goal.returns-in_err-does-clause-sizes
+returns-in_err-does-clause-sizes c = λ p was. c.does.ensures.sizes p (c.loop-k.invariant.sizes p was)

@@ -5,7 +5,7 @@ use Rattle.std.proofs.lemmas.Result.{IfOk-weaker}
 use Rattle.fw_hand.specs.Hands.{PlainHand}
 use Rattle.fw_rules.specs.Agree as agree
 use Rattle.fw_kept.specs.Kept.{self_of, node_of, act_of}
-use Rattle.fw_kept.specs.Pieces.{request_of}
+use Rattle.fw_owned.specs.Pieces.{request_of}
 use Rattle.fw_agree.proofs.Going.{place_next, place_inside, offered_next}
 use Rattle.fw_agree.proofs.Doable.{within_ok}
 use Rattle.fw_agree.proofs.passes.offered.Goals as goal
@@ -26,7 +26,7 @@ returns-in-Some-clause-act c =
 
 pub returns-in-Some-clause-doable : goal.returns-in-Some-clause-doable
 returns-in-Some-clause-doable c =
-    within_ok c.args.directory.now.params c.offers_request.result c.offers_request.ensures.first c.offers_request.ensures.last c.offers_request.ensures.signers
+    within_ok c.args.directory.now.params c.offers_request.result c.offers_request.ensures.first c.offers_request.ensures.last
 
 pub returns-in-None-clause-act : goal.returns-in-None-clause-act
 returns-in-None-clause-act c = absurd (place_inside c.args.keeps.now.requests c.args.place (sym c.in-None.ensures) c.requires.place)

@@ -2,8 +2,8 @@
 use Rattle.std.proofs.Common.{refl, nat_eq, ◌&&◌}
 use Rattle.fw_rules.specs.Agree as agree
 use Rattle.fw_kept.specs.Kept.{cast_of}
-use Rattle.fw_kept.specs.Pieces.{entry_of}
-use Rattle.fw_kept.proofs.Found.{newest_found}
+use Rattle.fw_owned.specs.Pieces.{entry_of}
+use Rattle.fw_owned.proofs.Found.{newest_found}
 use Rattle.fw_choose.proofs.done.cast_at.Goals as goal
 
 pub returns-in-Some : goal.returns-in-Some

@@ -3,7 +3,7 @@ use Rattle.std.proofs.Common.{ap, ◌∙◌, refl, nat_eq, ◌&&◌}
 use Rattle.std.specs.List.{list_any}
 use Rattle.fw_rules.specs.Agree as agree
 use Rattle.fw_kept.specs.Kept.{pledge_of}
-use Rattle.fw_kept.proofs.Found.{newest, any_found}
+use Rattle.fw_owned.proofs.Found.{newest, any_found}
 use Rattle.fw_choose.proofs.done.has_pledged.Goals as goal
 
 pub returns : goal.returns

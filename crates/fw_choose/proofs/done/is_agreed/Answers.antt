@@ -2,9 +2,9 @@
 use Rattle.std.proofs.Common.{ap, ◌∙◌}
 use Rattle.std.specs.List.{list_any}
 use Rattle.fw_rules.specs.Agree as agree
-use Rattle.fw_kept.specs.Pieces.{agreed_of, entry_of}
-use Rattle.fw_kept.specs.declared.owned.OwnedAgreed.{OwnedAgreed}
-use Rattle.fw_kept.proofs.Found.{newest, any_map}
+use Rattle.fw_owned.specs.Pieces.{agreed_of, entry_of}
+use Rattle.fw_owned.specs.declared.owned.OwnedAgreed.{OwnedAgreed}
+use Rattle.fw_owned.proofs.Found.{newest, any_map}
 use Rattle.fw_choose.proofs.done.is_agreed.Goals as goal
 
 pub returns : goal.returns

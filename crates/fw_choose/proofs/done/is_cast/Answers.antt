@@ -3,8 +3,8 @@ use Rattle.std.proofs.Common.{ap, ◌∙◌, nat_eq, ◌&&◌}
 use Rattle.std.specs.List.{list_any}
 use Rattle.fw_rules.specs.Agree as agree
 use Rattle.fw_kept.specs.Kept.{cast_of}
-use Rattle.fw_kept.specs.Pieces.{entry_of}
-use Rattle.fw_kept.proofs.Found.{newest, any_map}
+use Rattle.fw_owned.specs.Pieces.{entry_of}
+use Rattle.fw_owned.proofs.Found.{newest, any_map}
 use Rattle.fw_choose.proofs.done.is_cast.Goals as goal
 
 pub returns : goal.returns

@@ -5,8 +5,8 @@ use Rattle.std.specs.Option.{option_map}
 use Rattle.fw_text.specs.Texts.{hash}
 use Rattle.fw_rules.specs.Agree as agree
 use Rattle.fw_rules.specs.Signing as signing
-use Rattle.fw_kept.specs.Pieces.{entry_of}
-use Rattle.fw_kept.proofs.Found.{found}
+use Rattle.fw_owned.specs.Pieces.{entry_of}
+use Rattle.fw_owned.proofs.Found.{found}
 use Rattle.fw_choose.proofs.entries.seen_of.Goals as goal
 
 pub returns : goal.returns

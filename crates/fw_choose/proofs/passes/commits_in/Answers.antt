@@ -2,10 +2,10 @@
 use Rattle.std.proofs.Common.{◌≡◌, true, false, ap, sym, ◌∙◌}
 use Rattle.std.specs.Prelude.{is_some}
 use Rattle.fw_rules.specs.Agree as agree
-use Rattle.fw_kept.specs.declared.owned.OwnedVote.{OwnedVote}
+use Rattle.fw_owned.specs.declared.owned.OwnedVote.{OwnedVote}
 use Rattle.fw_kept.specs.Kept.{self_of, node_of, act_of}
-use Rattle.fw_kept.specs.Pieces.{vote_of}
-use Rattle.fw_kept.proofs.Found.{mapped_some, left_next, left_here}
+use Rattle.fw_owned.specs.Pieces.{vote_of}
+use Rattle.fw_owned.proofs.Found.{mapped_some, left_next, left_here}
 use Rattle.fw_choose.proofs.passes.commits_in.Goals as goal
 
 pub returns-then-is_some-clause-act : goal.returns-then-is_some-clause-act

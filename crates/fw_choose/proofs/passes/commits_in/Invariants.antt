@@ -4,7 +4,7 @@ use Rattle.fw_hand.specs.Hands.{PlainHand}
 use Rattle.fw_rules.specs.Agree as agree
 use Rattle.fw_rules.specs.Choices.{first_some}
 use Rattle.fw_kept.specs.Kept.{self_of, node_of}
-use Rattle.fw_kept.specs.Pieces.{vote_of}
+use Rattle.fw_owned.specs.Pieces.{vote_of}
 use Rattle.fw_choose.proofs.passes.commits_in.Given as goal
 
 abbrev pub invariant-loop-vote : goal.invariant-loop-vote

@@ -1,11 +1,10 @@
 -- What is agreed at the number, where it is the next one.
-use Rattle.std.proofs.Common.{◌≡◌, ℕ, length, Some, None, ap, sym, ◌∙◌}
+use Rattle.std.proofs.Common.{◌≡◌, ℕ, Some, None, ap, sym, ◌∙◌}
 use Rattle.std.proofs.lemmas.Option.{none-some, same_Some}
-use Rattle.fw_base.specs.Sizes.{quorum}
 use Rattle.fw_rules.specs.Agree as agree
-use Rattle.fw_kept.specs.declared.owned.OwnedAgreed.{OwnedAgreed}
-use Rattle.fw_kept.specs.Pieces.{agreed_of}
-use Rattle.fw_kept.specs.Queued.{next_up}
+use Rattle.fw_owned.specs.declared.owned.OwnedAgreed.{OwnedAgreed}
+use Rattle.fw_owned.specs.Pieces.{agreed_of}
+use Rattle.fw_settled.specs.Queued.{next_up}
 use Rattle.fw_choose.proofs.Choosing.{up_not, up_is}
 use Rattle.fw_choose.proofs.Opening.{agreed_number, up_open}
 use Rattle.fw_choose.proofs.passes.goes_up.Goals as goal
@@ -24,17 +23,13 @@ pub returns-in_ok-copy_agreed-in-Some-agreed_at-clause-act : goal.returns-in_ok-
 returns-in_ok-copy_agreed-in-Some-agreed_at-clause-act c = λ hand own.
     let next : next_up c.args.keeps.now.settled ≡ Some c.args.number = sym c.next_up.ensures ∙ c.in-Some.is ∙ ap (λ (m : ℕ). Some m) c.if-next-number.false in
     ap (λ (b : OwnedAgreed). Some (agree.Up (agreed_of b))) c.in_ok-copy_agreed-in-Some-agreed_at.ensures
-    ∙ up_is c.args.directory.now hand own c.args.keeps.now c.args.number c.in-Some-agreed_at.agreed.now (sym c.requires.1) next c.in-Some-agreed_at.ensures.found
+    ∙ up_is c.args.directory.now hand own c.args.keeps.now c.args.number c.in-Some-agreed_at.agreed.now (sym c.requires.1) next c.in-Some-agreed_at.ensures
 
 pub returns-in_ok-copy_agreed-in-Some-agreed_at-clause-number : goal.returns-in_ok-copy_agreed-in-Some-agreed_at-clause-number
 returns-in_ok-copy_agreed-in-Some-agreed_at-clause-number c =
-    ap (λ (b : OwnedAgreed). b.number) c.in_ok-copy_agreed-in-Some-agreed_at.ensures ∙ agreed_number c.args.keeps.now c.args.number c.in-Some-agreed_at.agreed.now c.in-Some-agreed_at.ensures.found
-
-pub returns-in_ok-copy_agreed-in-Some-agreed_at-clause-signers : goal.returns-in_ok-copy_agreed-in-Some-agreed_at-clause-signers
-returns-in_ok-copy_agreed-in-Some-agreed_at-clause-signers c =
-    ap (λ (b : OwnedAgreed). length b.signers) c.in_ok-copy_agreed-in-Some-agreed_at.ensures ∙ c.in-Some-agreed_at.ensures.signers ∙ ap quorum c.requires.1
+    ap (λ (b : OwnedAgreed). b.number) c.in_ok-copy_agreed-in-Some-agreed_at.ensures ∙ agreed_number c.args.keeps.now c.args.number c.in-Some-agreed_at.agreed.now c.in-Some-agreed_at.ensures
 
 pub returns-in_ok-copy_agreed-in-Some-agreed_at-clause-open : goal.returns-in_ok-copy_agreed-in-Some-agreed_at-clause-open
 returns-in_ok-copy_agreed-in-Some-agreed_at-clause-open c =
     let next : next_up c.args.keeps.now.settled ≡ Some c.args.number = sym c.next_up.ensures ∙ c.in-Some.is ∙ ap (λ (m : ℕ). Some m) c.if-next-number.false in
-    up_open c.args.keeps.now c.args.number c.in-Some-agreed_at.agreed.now c.in_ok-copy_agreed-in-Some-agreed_at.field-0 c.in-Some-agreed_at.ensures.found next c.in_ok-copy_agreed-in-Some-agreed_at.ensures
+    up_open c.args.keeps.now c.args.number c.in-Some-agreed_at.agreed.now c.in_ok-copy_agreed-in-Some-agreed_at.field-0 c.in-Some-agreed_at.ensures next c.in_ok-copy_agreed-in-Some-agreed_at.ensures

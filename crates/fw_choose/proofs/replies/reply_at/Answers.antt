@@ -1,8 +1,8 @@
 -- The newest reply that is found is the rule's.
 use Rattle.std.proofs.Common.{refl, nat_eq, ◌&&◌}
 use Rattle.fw_rules.specs.Agree as agree
-use Rattle.fw_kept.specs.Pieces as pieces
-use Rattle.fw_kept.proofs.Found.{newest_found}
+use Rattle.fw_owned.specs.Pieces as pieces
+use Rattle.fw_owned.proofs.Found.{newest_found}
 use Rattle.fw_choose.proofs.replies.reply_at.Goals as goal
 
 pub returns : goal.returns

@@ -6,8 +6,8 @@ use Rattle.fw_base.specs.declared.params.Params.{Params}
 use Rattle.fw_rules.specs.Agree as agree
 use Rattle.fw_rules.specs.Choices.{first_some}
 use Rattle.fw_kept.specs.Kept as kept
-use Rattle.fw_kept.specs.Pieces as pieces
-use Rattle.fw_kept.proofs.Found.{copied_some}
+use Rattle.fw_owned.specs.Pieces as pieces
+use Rattle.fw_owned.proofs.Found.{copied_some}
 use Rattle.fw_choose.proofs.Numbered.{first_next, first_here}
 use Rattle.fw_choose.proofs.replies.reply_to.Goals as goal
 

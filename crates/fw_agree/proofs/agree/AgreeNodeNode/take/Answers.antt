@@ -19,3 +19,9 @@ returns-clause-rule g c = ap rule_of c.self.view_is
 pub returns-clause-sends : goal.returns-clause-sends
 returns-clause-sends g c =
     all_sendable c.args.self.now (subst (λ p. IsTrue (accepted p)) (ap (λ n. n.params) c.self.view_is) c.self.invariant.0.sizes)
+
+pub invariant_of-self : goal.invariant_of-self
+invariant_of-self g c = (c.self.invariant.0, c.takes-taken.ensures.sizes c.self.inside.params c.self.invariant.1)
+
+pub invariant_of-self-2 : goal.invariant_of-self-2
+invariant_of-self-2 g c = (c.self.invariant.0, c.takes-taken.ensures.sizes c.self.inside.params c.self.invariant.1)

@@ -1,0 +1,4 @@
+-- The files of lemmas.
+pub mod Chosen
+pub mod Tops
+pub mod Planned

@@ -1,5 +1,0 @@
--- The files of lemmas.
-pub mod Counting
-pub mod Found
-pub mod Queueing
-pub mod Writing

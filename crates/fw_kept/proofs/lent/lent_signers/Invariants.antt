@@ -1,8 +1,0 @@
-use Rattle.std.proofs.Common.{◌≡◌, map, take}
-use Rattle.fw_frame.specs.Plain.{plain_signer}
-use Rattle.fw_frame.specs.View.{viewed_signer}
-use Rattle.fw_kept.specs.Pieces.{signer_of}
-use Rattle.fw_kept.proofs.lent.lent_signers.Given as goal
-
-abbrev pub invariant-loop-signer : goal.invariant-loop-signer
-invariant-loop-signer l = map viewed_signer (map plain_signer l.lent) ≡ map signer_of (take l.signer-index l.signers)

@@ -1,0 +1,4 @@
+-- The files of lemmas.
+pub mod Found
+pub mod Lists
+pub mod Writing
