@@ -2,3 +2,4 @@
 pub mod Fronts
 pub mod OneText
 pub mod ByBits
+pub mod Digests
