@@ -136,7 +136,7 @@ fn pledges(
     keeps.pledges.push(Pledge {
         view,
         number,
-        digest: Bytes::copy_of(alloc, &digest)?,
+        digest,
     })?;
     keeps.proofs.push(OwnedProof {
         view,

@@ -8,3 +8,5 @@ mod signing;
 
 pub use acting::performs;
 pub use hearing::{hears_proposal, hears_reply, hears_vote, remembers_request, resends};
+pub use sending::{send_to_others, send_to_row0};
+pub use signing::own_vote;

@@ -30,7 +30,7 @@ fn other_agreements(alloc: Global, params: &Params, own: u32) -> Result<Seats, M
 }
 
 /// Sends a frame to all agreement nodes but this one. After want of memory the outbox is as before.
-pub(crate) fn send_to_others(
+pub fn send_to_others(
     alloc: Global,
     directory: &Directory,
     own: u32,
@@ -46,7 +46,7 @@ pub(crate) fn send_to_others(
 }
 
 /// Sends a frame to the filters of row 0. After want of memory the outbox is as before.
-pub(crate) fn send_to_row0(
+pub fn send_to_row0(
     alloc: Global,
     directory: &Directory,
     bytes: &[u8],

@@ -52,7 +52,7 @@ fn signature(
 }
 
 /// Its vote in a view for the entry of a digest: prepare (phase 0) or commit.
-pub(crate) fn own_vote(
+pub fn own_vote(
     alloc: Global,
     directory: &Directory,
     own: u32,

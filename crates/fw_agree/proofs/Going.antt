@@ -1,5 +1,5 @@
 -- One choice after another, and what was sent before them.
-use Rattle.std.proofs.Common.{◌≡◌, ℕ, zero, suc, ◌+◌, ◌-◌, ◌<◌, ◌≤◌, List, [], ◌∷◌, length, map, drop, Option, Some, None, refl, sym, ap, ◌∙◌, arith, append_assoc}
+use Rattle.std.proofs.Common.{◌≡◌, ℕ, zero, suc, ◌+◌, ◌-◌, ◌<◌, ◌≤◌, List, [], ◌∷◌, ◌++◌, length, map, drop, Option, Some, None, refl, sym, ap, ◌∙◌, arith, append_assoc}
 use Rattle.std.specs.Prelude.{slice_get}
 use Rattle.std.proofs.lemmas.List.{length-map}
 use Rattle.std.proofs.Math.ListN.{drop_of_length-le}
@@ -8,6 +8,7 @@ use Rattle.fw_node.specs.Histories.{Out}
 use Rattle.fw_frame.specs.View.{Request}
 use Rattle.fw_rules.specs.Agree as agree
 use Rattle.fw_rules.specs.Agree.{Node, Self, Step, acted, for_each}
+use Rattle.fw_rules.specs.Views as views
 use Rattle.fw_agree.specs.Steps.{behind}
 
 abbrev pub Chooses : Type 0 → Type 0
@@ -76,6 +77,45 @@ passes_behind me out s =
     ap (λ t. agree.commits_and_sends me (agree.casts_votes me t)) (offers_behind me out s)
     ∙ ap (agree.commits_and_sends me) (two_behind me (agree.prepares me) (agree.pledges me) out (agree.makes_offers me s))
     ∙ two_behind me (agree.commits me) (agree.goes_up me) out (agree.casts_votes me (agree.makes_offers me s))
+
+-- ---- what turns the view
+
+turned_behind : (me : Self (List ℕ)) (turn : Option views.Turn) (out : Out) (s : Step (List ℕ)) → views.turned me (behind out s) turn ≡ behind out (views.turned me s turn)
+turned_behind me None out s = refl
+turned_behind me (Some turn) out s = ap (λ (sent : Out). ((views.turns me s.0 turn).0, sent)) (append_assoc out s.1 (views.turns me s.0 turn).1)
+
+single_behind : (me : Self (List ℕ)) (f : Node → Option views.Turn) (out : Out) (s : Step (List ℕ)) → views.single me f (behind out s) ≡ behind out (views.single me f s)
+single_behind me f out s = turned_behind me (f s.0) out s
+
+changes_behind : (me : Self (List ℕ)) (out : Out) (s : Step (List ℕ)) → views.changes_view me (behind out s) ≡ behind out (views.changes_view me s)
+changes_behind me out s =
+    let adopts : Node → Option views.Turn = views.adopts me in
+    let joins : Node → Option views.Turn = views.joins me in
+    let makes : Node → Option views.Turn = views.makes me in
+    ap (λ (t : Step (List ℕ)). views.single me makes (views.single me joins t)) (single_behind me adopts out s)
+    ∙ ap (λ (t : Step (List ℕ)). views.single me makes t) (single_behind me joins out (views.single me adopts s))
+    ∙ single_behind me makes out (views.single me joins (views.single me adopts s))
+
+pub views_behind : (me : Self (List ℕ)) (out : Out) (s : Step (List ℕ)) → views.passes me (behind out s) ≡ behind out (views.passes me s)
+views_behind me out s = ap (λ (t : Step (List ℕ)). agree.passes me t) (changes_behind me out s) ∙ passes_behind me out (views.changes_view me s)
+
+pub turned_chain : (me : Self (List ℕ)) (s s0 s1 s2 : Step (List ℕ)) → s0 ≡ views.single me (views.adopts me) s → s1 ≡ views.single me (views.joins me) s0 → s2 ≡ views.single me (views.makes me) s1 → s2 ≡ views.changes_view me s
+turned_chain me s s0 s1 s2 e0 e1 e2 =
+    e2 ∙ ap (λ (t : Step (List ℕ)). views.single me (views.makes me) t) e1
+    ∙ ap (λ (t : Step (List ℕ)). views.single me (views.makes me) (views.single me (views.joins me) t)) e0
+
+pub all_chain : (me : Self (List ℕ)) (s t u : Step (List ℕ)) → t ≡ views.changes_view me s → u ≡ agree.passes me t → u ≡ views.passes me s
+all_chain me s t u turned ordered = ordered ∙ ap (λ (x : Step (List ℕ)). agree.passes me x) turned
+
+-- a turn, done
+pub turned_so : (me : Self (List ℕ)) (x y : Node) (turn : views.Turn) (out new : Out) → y ≡ (views.turns me x turn).0 → new ≡ out ++ (views.turns me x turn).1 → (y, new) ≡ views.turned me (x, out) (Some turn)
+turned_so me x y turn out new kept sent = ap (λ (z : Node). (z, new)) kept ∙ ap (λ (o : Out). ((views.turns me x turn).0, o)) sent
+
+-- a tick, and the passes after it
+pub ticked_then : (me : Self (List ℕ)) (x y : Node) (out new : Out) (t : Step (List ℕ)) → y ≡ (views.ticks me x).0 → new ≡ out ++ (views.ticks me x).1 → t ≡ views.passes me (y, new) → t ≡ behind out (views.passes me (views.ticks me x))
+ticked_then me x y out new t kept sent all =
+    let pair : (y, new) ≡ behind out (views.ticks me x) = ap (λ (z : Node). (z, new)) kept ∙ ap (λ (o : Out). ((views.ticks me x).0, o)) sent in
+    all ∙ ap (λ (s : Step (List ℕ)). views.passes me s) pair ∙ views_behind me out (views.ticks me x)
 
 -- ---- all passes, one after another
 

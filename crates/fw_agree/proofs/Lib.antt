@@ -1,6 +1,7 @@
 -- The files of lemmas.
 pub mod Going
-pub mod Beginning
+pub mod Turned
+pub mod Shapes
 pub mod Doable
 pub mod Heard
 pub mod Sends

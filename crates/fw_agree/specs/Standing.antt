@@ -7,7 +7,8 @@ use Rattle.fw_trace.specs.Role.{kept, sends}
 use Rattle.fw_directory.specs.Directories.{PlainDirectory}
 use Rattle.fw_hand.specs.Hands.{PlainHand}
 use Rattle.fw_node.specs.Histories.{History, Out}
-use Rattle.fw_rules.specs.Agree.{Node, agree_role}
+use Rattle.fw_rules.specs.Agree.{Node}
+use Rattle.fw_rules.specs.Views.{agree_role}
 use Rattle.fw_kept.specs.Kept.{self_of}
 
 -- its deployment's sizes, its number and its hand, what it keeps, and whether it is stopped

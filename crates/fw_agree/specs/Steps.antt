@@ -1,6 +1,9 @@
 -- A step of an agreement node's rule, seen in what it keeps and in its outbox.
-use Rattle.std.specs.Prelude.{ℕ, ◌≡◌, Bool, true, false, List, ◌++◌, length, ⊤, Option, Some, None}
-use Rattle.fw_frame.specs.View.{Frame, Votes}
+use Rattle.std.specs.Prelude.{ℕ, ◌≡◌, Bool, true, false, List, ◌++◌, Option, Some, None, IsTrue}
+use Rattle.fw_base.specs.declared.params.Params.{Params}
+use Rattle.fw_frame.specs.Frames.{PlainFrame}
+use Rattle.fw_frame.specs.Ranges.{frame_fits}
+use Rattle.fw_frame.specs.View.{Frame, viewed}
 use Rattle.fw_node.specs.Histories.{Out}
 use Rattle.fw_rules.specs.Agree as agree
 use Rattle.fw_rules.specs.Agree.{Node, Self, Step}
@@ -35,7 +38,6 @@ chooses pass.Pledges me x n = agree.pledges me x n
 chooses pass.Commits me x n = agree.commits me x n
 chooses pass.Ups me x n = agree.goes_up me x n
 
--- a vote names the digest of an entry
-abbrev pub HasDigest : Frame → Type 0
-HasDigest (Votes v) = length v.digest ≡ 32
-HasDigest _ = ⊤
+-- what is seen of a frame whose numbers, lengths and lists fit the sizes of a deployment
+abbrev pub IsSeen : Params → Frame → Type 0
+IsSeen p v = (f : PlainFrame) × (viewed f ≡ v) × IsTrue (frame_fits p f)

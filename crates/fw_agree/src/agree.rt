@@ -1,13 +1,12 @@
 //! The node of an agreement node.
 
 ghost use Rattle.std.specs.Prelude.{◌≡◌, ◌++◌, [], false, length, take, IfOk, OnOk, OnErr};
-ghost use Rattle.fw_base.specs.declared.params.Params.{Params};
 ghost use Rattle.fw_base.specs.declared.seat.Seat.TheVariants.{Agree};
 ghost use Rattle.fw_op.specs.declared.op.Op.{Op};
 ghost use Rattle.fw_directory.specs.Directories.{PlainDirectory};
-ghost use Rattle.fw_trace.specs.declared.Input.TheVariants.{Heard};
+ghost use Rattle.fw_trace.specs.declared.Input.TheVariants.{Heard, Tick};
 ghost use Rattle.fw_node.specs.Histories.{History, taken};
-ghost use Rattle.fw_rules.specs.Agree as rules;
+ghost use Rattle.fw_rules.specs.Views as rules;
 ghost use Rattle.fw_kept.specs.Kept.{self_of, node_of, IsFor};
 ghost use Rattle.fw_act.specs.Doing.{IsAgreements};
 ghost use Rattle.fw_agree.specs.Standing.{StandsFor, keeps_after, number_of, rule_of};
@@ -16,6 +15,7 @@ ghost use Rattle.fw_agree.specs.Steps.{at, behind};
 use crate::hearing::hears;
 use crate::passes::passes;
 use fw_base::{Params, Seat};
+use fw_clock::ticks;
 use fw_digest::Steps;
 use fw_directory::Directory;
 use fw_hand::Hand;
@@ -27,7 +27,7 @@ use std::alloc::Global;
 use std::marker::Model;
 use std::sync::ledger::Ledger;
 
-/// The node of an agreement node. It stays in view 0 so far: it ignores ticks, view changes and new views.
+/// The node of an agreement node.
 #[derive(Drop)]
 pub struct AgreeNode {
     alloc: Global,
@@ -98,7 +98,7 @@ fn takes_frame<L: Ledger>(
     requires hand { IsAgreements directory.now.params own hand.now }
     requires for_sizes { IsFor directory.now.params keeps.old }
     ensures step { OnOk result (at keeps.new out.new ≡ behind out.old (rules.agree_next {O = Op} (self_of directory.now hand.now own) (node_of keeps.old) (Heard from bytes.now))) }
-    ensures sizes { (p : Params) → IsFor p keeps.old → IsFor p keeps.new }
+    ensures sizes { IsFor directory.now.params keeps.new }
     ensures begins { take (length out.old) out.new ≡ out.old }
 {
     let Some(checked) = admitted(alloc, directory, Seat::Agree(own), from, bytes, steps)? else {
@@ -109,6 +109,25 @@ fn takes_frame<L: Ledger>(
     } else {
         Ok(())
     }
+}
+
+/// Takes a tick as the agreement node's role does. After want of memory the outbox begins with what it had.
+fn takes_tick(
+    alloc: Global,
+    directory: &Directory,
+    own: u32,
+    hand: &Hand,
+    keeps: &mut Keeps,
+    out: &mut Outbox,
+) -> Result<(), Memory>
+    requires hand { IsAgreements directory.now.params own hand.now }
+    requires for_sizes { IsFor directory.now.params keeps.old }
+    ensures step { OnOk result (at keeps.new out.new ≡ behind out.old (rules.agree_next {O = Op} (self_of directory.now hand.now own) (node_of keeps.old) Tick)) }
+    ensures sizes { IsFor directory.now.params keeps.new }
+    ensures begins { take (length out.old) out.new ≡ out.old }
+{
+    ticks(alloc, directory, own, hand, keeps, out)?;
+    passes(alloc, directory, own, hand, keeps, out)
 }
 
 /// Takes an input as the agreement node's role does. After want of memory the outbox begins with what it had.
@@ -125,14 +144,14 @@ fn next<L: Ledger>(
     requires hand { IsAgreements directory.now.params own hand.now }
     requires for_sizes { IsFor directory.now.params keeps.old }
     ensures step { OnOk result (at keeps.new out.new ≡ behind out.old (rules.agree_next (self_of directory.now hand.now own) (node_of keeps.old) (taken input.entry))) }
-    ensures sizes { (p : Params) → IsFor p keeps.old → IsFor p keeps.new }
+    ensures sizes { IsFor directory.now.params keeps.new }
     ensures begins { take (length out.old) out.new ≡ out.old }
 {
     match input {
         Input::Frame { from, bytes } => {
             takes_frame(alloc, directory, own, hand, keeps, from, bytes, out, steps)
         }
-        Input::Tick => Ok(()),
+        Input::Tick => takes_tick(alloc, directory, own, hand, keeps, out),
         Input::Submit(_) => Ok(()),
     }
 }
@@ -152,7 +171,7 @@ fn takes<L: Ledger>(
     requires for_sizes { IsFor directory.now.params keeps.old }
     ensures kept { OnOk result (node_of keeps.new ≡ (rules.agree_next (self_of directory.now hand.now own) (node_of keeps.old) (taken input.entry)).0) }
     ensures sent { OnOk result (out.new ≡ out.old ++ (rules.agree_next (self_of directory.now hand.now own) (node_of keeps.old) (taken input.entry)).1) }
-    ensures sizes { (p : Params) → IsFor p keeps.old → IsFor p keeps.new }
+    ensures sizes { IsFor directory.now.params keeps.new }
     ensures err { OnErr result (out.new ≡ out.old) }
 {
     let len = out.sent().len();

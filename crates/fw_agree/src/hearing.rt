@@ -10,14 +10,16 @@ ghost use Rattle.fw_frame.specs.Plain.{plain, plain_request};
 ghost use Rattle.fw_frame.specs.View.{viewed, viewed_request, viewed_answers};
 ghost use Rattle.fw_node.specs.Histories.{Out};
 ghost use Rattle.fw_rules.specs.Agree as agree;
+ghost use Rattle.fw_rules.specs.Views as views;
 ghost use Rattle.fw_kept.specs.Kept.{self_of, node_of, IsFor};
-ghost use Rattle.fw_agree.specs.Steps.{at, behind, behind_some, if_heard, HasDigest};
+ghost use Rattle.fw_agree.specs.Steps.{at, behind, behind_some, if_heard, IsSeen};
 
 use fw_act::{hears_proposal, hears_reply, hears_vote, remembers_request, resends};
 use fw_base::Seat;
 use fw_choose::reply_to;
 use fw_directory::Directory;
 use fw_frame::{Frame, Request};
+use fw_hears::{hears_change, hears_new_view};
 use fw_kept::Keeps;
 use fw_list::Memory;
 use fw_node::Outbox;
@@ -69,7 +71,7 @@ fn hears_client(
     frame: &Frame<'_>,
     out: &mut Outbox,
 ) -> Result<bool, Memory>
-    ensures step { IfOk result (λ heard. (hand : PlainHand) (own : ℕ) → behind_some out.old (agree.hears (self_of directory.now hand own) (node_of keeps.old) (Client client) (viewed (plain frame.now))) ≡ if_heard heard (at keeps.new out.new)) }
+    ensures step { IfOk result (λ heard. (hand : PlainHand) (own : ℕ) → behind_some out.old (views.hears_all (self_of directory.now hand own) (node_of keeps.old) (Client client) (viewed (plain frame.now))) ≡ if_heard heard (at keeps.new out.new)) }
     ensures ignored { IfOk result (λ heard. heard ≡ false → at keeps.new out.new ≡ at keeps.old out.old) }
     ensures sizes { (p : Params) → IsFor p keeps.old → IsFor p keeps.new }
     ensures err { OnErr result (out.new ≡ out.old) }
@@ -101,8 +103,9 @@ fn hears_agreement(
     frame: &Frame<'_>,
 ) -> Result<bool, Memory>
     requires sizes { IsTrue (accepted directory.now.params) }
-    requires digest { HasDigest (viewed (plain frame.now)) }
-    ensures step { IfOk result (λ heard. (hand : PlainHand) (own i : ℕ) (out : Out) → behind_some out (agree.hears (self_of directory.now hand own) (node_of keeps.old) (Agree i) (viewed (plain frame.now))) ≡ if_heard heard (at keeps.new out)) }
+    requires for_sizes { IsFor directory.now.params keeps.old }
+    requires seen { IsSeen directory.now.params (viewed (plain frame.now)) }
+    ensures step { IfOk result (λ heard. (hand : PlainHand) (own i : ℕ) (out : Out) → behind_some out (views.hears_all (self_of directory.now hand own) (node_of keeps.old) (Agree i) (viewed (plain frame.now))) ≡ if_heard heard (at keeps.new out)) }
     ensures ignored { IfOk result (λ heard. heard ≡ false → node_of keeps.new ≡ node_of keeps.old) }
     ensures sizes { (p : Params) → IsFor p keeps.old → IsFor p keeps.new }
 {
@@ -128,6 +131,14 @@ fn hears_agreement(
             hears_vote(alloc, keeps, *phase, *view, *number, *agree, &digest, sig)?;
             Ok(true)
         }
+        Frame::Change(change) => {
+            hears_change(alloc, keeps, change)?;
+            Ok(true)
+        }
+        Frame::NewView { view, changes, sig } => {
+            hears_new_view(alloc, keeps, *view, changes.items(), sig)?;
+            Ok(true)
+        }
         _ => Ok(false),
     }
 }
@@ -139,7 +150,7 @@ fn hears_filter(
     frame: &Frame<'_>,
     out: &mut Outbox,
 ) -> Result<bool, Memory>
-    ensures step { IfOk result (λ heard. (d : PlainDirectory) (hand : PlainHand) (own c : ℕ) → behind_some out.old (agree.hears (self_of d hand own) (node_of keeps.old) (Filter 0 c) (viewed (plain frame.now))) ≡ if_heard heard (at keeps.new out.new)) }
+    ensures step { IfOk result (λ heard. (d : PlainDirectory) (hand : PlainHand) (own c : ℕ) → behind_some out.old (views.hears_all (self_of d hand own) (node_of keeps.old) (Filter 0 c) (viewed (plain frame.now))) ≡ if_heard heard (at keeps.new out.new)) }
     ensures ignored { IfOk result (λ heard. heard ≡ false → at keeps.new out.new ≡ at keeps.old out.old) }
     ensures sizes { (p : Params) → IsFor p keeps.old → IsFor p keeps.new }
     ensures err { OnErr result (out.new ≡ out.old) }
@@ -159,7 +170,7 @@ fn hears_filter(
     }
 }
 
-/// Takes a frame from a seat. Whether it is one that an agreement node hears in view 0; any other changes nothing. After want of
+/// Takes a frame from a seat. Whether it is one that an agreement node hears; any other changes nothing. After want of
 /// memory the outbox is as before.
 pub(crate) fn hears(
     alloc: Global,
@@ -170,8 +181,9 @@ pub(crate) fn hears(
     out: &mut Outbox,
 ) -> Result<bool, Memory>
     requires sizes { IsTrue (accepted directory.now.params) }
-    requires digest { HasDigest (viewed (plain frame.now)) }
-    ensures step { IfOk result (λ heard. (hand : PlainHand) (own : ℕ) → behind_some out.old (agree.hears (self_of directory.now hand own) (node_of keeps.old) from (viewed (plain frame.now))) ≡ if_heard heard (at keeps.new out.new)) }
+    requires for_sizes { IsFor directory.now.params keeps.old }
+    requires seen { IsSeen directory.now.params (viewed (plain frame.now)) }
+    ensures step { IfOk result (λ heard. (hand : PlainHand) (own : ℕ) → behind_some out.old (views.hears_all (self_of directory.now hand own) (node_of keeps.old) from (viewed (plain frame.now))) ≡ if_heard heard (at keeps.new out.new)) }
     ensures ignored { IfOk result (λ heard. heard ≡ false → at keeps.new out.new ≡ at keeps.old out.old) }
     ensures sizes { (p : Params) → IsFor p keeps.old → IsFor p keeps.new }
     ensures err { OnErr result (out.new ≡ out.old) }

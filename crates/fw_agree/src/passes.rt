@@ -6,12 +6,14 @@ ghost use Rattle.fw_base.specs.declared.params.Params.{Params};
 ghost use Rattle.fw_base.specs.Sizes.{accepted};
 ghost use Rattle.fw_hand.specs.Hands.{PlainHand};
 ghost use Rattle.fw_rules.specs.Agree as agree;
+ghost use Rattle.fw_rules.specs.Views as views;
 ghost use Rattle.fw_kept.specs.Kept.{self_of, node_of, act_of, IsFor};
 ghost use Rattle.fw_owned.specs.Pieces.{request_of};
 ghost use Rattle.fw_kept.specs.Acts.{IsDoable, IsOpen};
 ghost use Rattle.fw_act.specs.Doing.{IsAgreements};
 ghost use Rattle.fw_agree.specs.Steps.{at, chooses};
 
+use crate::turning::changes_view;
 use fw_act::performs;
 use fw_choose::{commits, goes_up, offers_choice, offers_request, pledges, prepares};
 use fw_directory::Directory;
@@ -151,8 +153,8 @@ fn offers_requests(
     Ok(())
 }
 
-/// Makes all passes. After want of memory the outbox begins with what it had.
-pub(crate) fn passes(
+/// Makes the passes that order numbers in a view. After want of memory the outbox begins with what it had.
+fn orders(
     alloc: Global,
     directory: &Directory,
     own: u32,
@@ -172,4 +174,24 @@ pub(crate) fn passes(
     goes_over(alloc, directory, own, hand, keeps, Pass::Pledges, out)?;
     goes_over(alloc, directory, own, hand, keeps, Pass::Commits, out)?;
     goes_over(alloc, directory, own, hand, keeps, Pass::Ups, out)
+}
+
+/// Makes all passes: those that turn its view, then those that order numbers in it. After want of memory the outbox begins with what it
+/// had.
+pub(crate) fn passes(
+    alloc: Global,
+    directory: &Directory,
+    own: u32,
+    hand: &Hand,
+    keeps: &mut Keeps,
+    out: &mut Outbox,
+) -> Result<(), Memory>
+    requires hand { IsAgreements directory.now.params own hand.now }
+    requires for_sizes { IsFor directory.now.params keeps.old }
+    ensures step { OnOk result (at keeps.new out.new ≡ views.passes (self_of directory.now hand.now own) (at keeps.old out.old)) }
+    ensures sizes { IsFor directory.now.params keeps.new }
+    ensures begins { take (length out.old) out.new ≡ out.old }
+{
+    changes_view(alloc, directory, own, hand, keeps, out)?;
+    orders(alloc, directory, own, hand, keeps, out)
 }

@@ -1,9 +1,9 @@
 //! All nodes of a deal.
 
 ghost use Rattle.std.specs.Prelude.{◌≡◌, ◌<◌, ℕ, [], Some, slice_get, IfOk, IsTrue};
-ghost use Rattle.fw_base.specs.Sizes.{accepted};
+ghost use Rattle.fw_base.specs.Sizes.{accepted, agreements};
 ghost use Rattle.fw_base.specs.declared.seat.Seat.{Seat};
-ghost use Rattle.fw_base.specs.declared.seat.Seat.TheVariants.{Client};
+ghost use Rattle.fw_base.specs.declared.seat.Seat.TheVariants.{Agree, Client};
 ghost use Rattle.fw_record.specs.Records.{starts_fit};
 ghost use Rattle.fw_directory.specs.Directories.{PlainDirectory};
 ghost use Rattle.fw_deal.specs.Deals.{hand_of};
@@ -38,6 +38,7 @@ pub fn cores(alloc: Global, deal: &Deal) -> Result<Cores, Memory>
     ensures seated { IfOk result (λ grid. AllSeated ⟦<AgreeNode as Node>⟧.params ⟦<AgreeNode as Node>⟧.own ⟦<ExecNode<Store> as Node>⟧.params ⟦<ExecNode<Store> as Node>⟧.own ⟦<FilterNode as Node>⟧.params ⟦<FilterNode as Node>⟧.own ⟦<ClientNode as Node>⟧.params ⟦<ClientNode as Node>⟧.own deal.now.origin.params (nodes_of grid)) }
     ensures fresh { IfOk result (λ grid. (d : PlainDirectory) → d.params ≡ deal.now.origin.params
         → AllStanding ⟦<AgreeNode as Node>⟧.stands_for ⟦<AgreeNode as Node>⟧.is_stopped ⟦<ExecNode<Store> as Node>⟧.stands_for ⟦<ExecNode<Store> as Node>⟧.is_stopped ⟦<FilterNode as Node>⟧.stands_for ⟦<FilterNode as Node>⟧.is_stopped ⟦<ClientNode as Node>⟧.stands_for ⟦<ClientNode as Node>⟧.is_stopped d (λ seat. []) (nodes_of grid)) }
+    ensures agreements { IfOk result (λ grid. (i : ℕ) → i < agreements deal.now.origin.params → hand_in ⟦<AgreeNode as Node>⟧.hand (slice_get grid.agree i) ≡ Some (hand_of deal.now (Agree i))) }
     ensures hands { IfOk result (λ grid. (c : ℕ) → c < deal.now.origin.params.clients → hand_in ⟦<ClientNode as Node>⟧.hand (slice_get grid.clients c) ≡ Some (hand_of deal.now (Client c))) }
     ensures rules { IfOk result (λ grid. (d : PlainDirectory) (seat : Seat) (h : History) → d.params ≡ deal.now.origin.params
         → rule_of ⟦<AgreeNode as Node>⟧.rule ⟦<ExecNode<Store> as Node>⟧.rule ⟦<FilterNode as Node>⟧.rule ⟦<ClientNode as Node>⟧.rule (nodes_of grid) d seat h ≡ rule_at (record { directory = d; hand = hand_of deal.now }) seat h) }

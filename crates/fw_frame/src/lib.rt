@@ -13,4 +13,4 @@ mod write;
 pub use frame::{Change, ChangeList, Entry, Frame, Proof, ProofList, Request, Signer, Signers};
 pub use parts::{Part, PartList, vote_slot};
 pub use shown::{Carried, Shown, Text, TextList};
-pub use texts::{entry_digest, three_numbers, two_numbers};
+pub use texts::{entry_digest, text_of_change, text_of_new_view, three_numbers, two_numbers};

@@ -17,8 +17,8 @@ use Rattle.fw_rules.specs.Agree.{Node, Self}
 use Rattle.fw_view.specs.Counted.{Counted, frame_of, frame_with, calls_for, join}
 use Rattle.fw_view.specs.Counted as counts
 use Rattle.fw_view.proofs.Senders.{each_view, any_same}
-use Rattle.fw_views.specs.Views.{Turn, Start, joins_at, joins}
-use Rattle.fw_views.specs.Views as rule
+use Rattle.fw_rules.specs.Views.{Turn, Start, joins_at, joins}
+use Rattle.fw_rules.specs.Views as rule
 use Rattle.fw_owned.specs.declared.owned.OwnedChange.{OwnedChange}
 use Rattle.fw_owned.specs.Pieces.{change_of}
 use Rattle.fw_owned.proofs.Found.{any_map, mapped_some}

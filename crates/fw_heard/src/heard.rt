@@ -7,7 +7,7 @@ ghost use Rattle.fw_frame.specs.View as frames;
 ghost use Rattle.fw_means.specs.Means.{written};
 ghost use Rattle.fw_view.specs.Counted.{frame_of, frame_with};
 ghost use Rattle.fw_rules.specs.Agree as agree;
-ghost use Rattle.fw_views.specs.Views.{Start, joins};
+ghost use Rattle.fw_rules.specs.Views.{Start, joins};
 ghost use Rattle.fw_owned.specs.Pieces.{change_of};
 ghost use Rattle.fw_heard.specs.Changed.{first_of};
 

@@ -6,7 +6,7 @@ use Rattle.fw_hand.specs.Hands.{PlainHand}
 use Rattle.fw_rules.specs.Agree as agree
 use Rattle.fw_rules.specs.Agree.{Node, Self}
 use Rattle.fw_rules.specs.Deployed.{means_of}
-use Rattle.fw_views.specs.Views.{PATIENCE}
+use Rattle.fw_rules.specs.Views.{PATIENCE}
 use Rattle.fw_owned.specs.Pieces.{request_of, entry_of, signer_of, propose_of, vote_of, proof_of, change_of, new_view_of, agreed_of, reply_of}
 use Rattle.fw_adopted.specs.Plans.{adopted_of}
 use Rattle.fw_kept.specs.declared.keeps.Cast.{Cast}

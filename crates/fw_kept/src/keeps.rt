@@ -9,7 +9,7 @@ use fw_adopted::Adoptions;
 use fw_base::Params;
 use fw_heard::Heard;
 use fw_known::Known;
-use fw_list::{Bytes, Items, Memory, Newest};
+use fw_list::{Items, Memory, Newest};
 use fw_owned::{
     OwnedAgreed, OwnedChange, OwnedEntry, OwnedNewView, OwnedProof, OwnedPropose, OwnedRequest,
     OwnedSigners,
@@ -30,7 +30,7 @@ pub struct Cast {
 pub struct Pledge {
     pub view: u32,
     pub number: u32,
-    pub digest: Bytes,
+    pub digest: [u8; 32],
 }
 
 /// What it keeps: the requests, proposals, view changes and new views that it heard, in order; its view, and whether that has begun; for

@@ -1,24 +1,19 @@
 -- What the one agreement node sends: agreed frames of what it committed, one for each number, and replies that it heard from filters.
 use Rattle.std.proofs.Common.{ℕ, zero, ◌+◌, ◌*◌, ◌≡◌, ◌≤◌, ◌⊎◌, inl, inr, Bool, true, false, cond, not, nat_eq, List, [], ◌∷◌, ◌++◌, map, refl, sym, ◌∙◌, ap, subst, Option, Some, None, is_some, arith}
-use Rattle.std.specs.Prelude.{option_and_then, filter}
+use Rattle.std.specs.Prelude.{filter}
 use Rattle.std.specs.List.{list_any}
 use Rattle.std.proofs.lemmas.Bool.{eqb-true}
 use Rattle.std.proofs.lemmas.Option.{none-some, same_Some}
 use Rattle.fw_list.specs.Lists.{numbers_from}
 use Rattle.fw_base.specs.declared.seat.Seat.{Seat}
 use Rattle.fw_base.specs.declared.seat.Seat.TheVariants.{Agree, Filter, Client}
-use Rattle.fw_trace.specs.declared.Input.{Input}
-use Rattle.fw_trace.specs.declared.Input.TheVariants.{Heard, Tick, Submitted}
-use Rattle.fw_trace.specs.Lists.{In, first_at}
-use Rattle.fw_trace.specs.Role.{kept, sends}
+use Rattle.fw_trace.specs.Lists.{In}
 use Rattle.fw_trace.proofs.Words.{In-append}
-use Rattle.fw_source.specs.Sources.{Hears, AllHeard, EverSent}
 use Rattle.fw_frame.specs.View.{Entry, Given, Request, Signer, Agreed, Reply, Frame, Asks, Proposes, Votes, Agrees, Replies}
 use Rattle.fw_means.specs.Means.{when}
-use Rattle.fw_rules.specs.Choices.{first_some, admitted}
-use Rattle.fw_rules.specs.Agree.{Node, Self, Step, Sends, Act, Offer, Prepare, Pledge_to, Commit, Up, performs, acted, for_each, to_others, numbers, agreed_at, offers_choice, offers_request, prepares_one, prepares, pledge_of, pledges_cast, pledges, commit_with, commits_by, commits_in, commits, up_of, goes_up, vote_quorum, seen_of, cast_at, passes, reply_of, reply_to, same_request, hears_request, hears_reply, hears, passes_after, agree_next, agree_role}
+use Rattle.fw_rules.specs.Choices.{first_some}
+use Rattle.fw_rules.specs.Agree.{Node, Self, Step, Sends, Act, Offer, Prepare, Pledge_to, Commit, Up, performs, acted, for_each, to_others, numbers, agreed_at, offers_choice, offers_request, prepares_one, prepares, pledge_of, pledges_cast, pledges, commit_with, commits_by, commits_in, commits, up_of, goes_up, vote_quorum, seen_of, cast_at, passes, reply_of, reply_to, same_request, hears_request, hears_reply, hears}
 use Rattle.fw_source.proofs.Listed.{first_at-in}
-use Rattle.fw_lengths.proofs.Options.{when-some}
 use Rattle.fw_law_words.proofs.Lists.{In-map, In-numbers}
 use Rattle.fw_law_words.proofs.Roles.{held_reply}
 
@@ -28,7 +23,7 @@ use Rattle.fw_law_words.proofs.Roles.{held_reply}
 abbrev pub Grows : Node → Node → Type 0
 Grows x y = (n : ℕ) (a : Agreed) → agreed_at x n ≡ Some a → agreed_at y n ≡ Some a
 
-agreed_number : (x : Node) (n : ℕ) (a : Agreed) → agreed_at x n ≡ Some a → a.number ≡ n
+pub agreed_number : (x : Node) (n : ℕ) (a : Agreed) → agreed_at x n ≡ Some a → a.number ≡ n
 agreed_number x n a e =
     let at = first_at-in (λ (b : Agreed). Some (b.number, b)) x.committed n a e in
     let same : (at.item.number, at.item) ≡ (n, a) = same_Some (at.item.number, at.item) (n, a) at.read in
@@ -59,14 +54,15 @@ pub record SentDown {M : Type 0} (me : Self M) (K : Seat → M → Type 0) (m : 
 abbrev pub AgreeOut : {M : Type 0} → Self M → (M → Type 0) → Node → M → Type 0
 AgreeOut me D x m = SentUp me x m ⊎ D m
 
-out_later : {M : Type 0} (me : Self M) (D : M → Type 0) (x y : Node) (m : M) → Grows x y → AgreeOut me D x m → AgreeOut me D y m
+pub out_later : {M : Type 0} (me : Self M) (D : M → Type 0) (x y : Node) (m : M) → Grows x y → AgreeOut me D x m → AgreeOut me D y m
 out_later me D x y m g (inl s) = inl (up_later me x y m g s)
 out_later me D x y m g (inr s) = inr s
 
-record Going {M : Type 0} (me : Self M) (D : M → Type 0) (x0 : Node) (s : Step M) : Type 0 where
-  grows : Grows x0 s.0
-  held : s.0.heard.held ≡ x0.heard.held
-  outs : (o : Seat × M) → In o s.1 → AgreeOut me D s.0 o.1
+-- from this node on: what was committed is so, the same replies are held, and all that was sent is of that kind
+pub record Going {M : Type 0} (me : Self M) (D : M → Type 0) (x0 : Node) (s : Step M) : Type 0 where
+  pub grows : Grows x0 s.0
+  pub held : s.0.heard.held ≡ x0.heard.held
+  pub outs : (o : Seat × M) → In o s.1 → AgreeOut me D s.0 o.1
 
 -- ---- acts
 
@@ -108,11 +104,11 @@ module _ {M : Type 0} (me : Self M) (own : me.own ≡ 0) (one : me.means.params.
       ap (λ (i : ℕ). map (λ k. (Agree k, me.means.write frame)) (filter (λ k. not (nat_eq k i)) (numbers_from 0 (3 * me.means.params.f + 1)))) own
       ∙ ap (λ (f : ℕ). map (λ k. (Agree k, me.means.write frame)) (filter (λ k. not (nat_eq k 0)) (numbers_from 0 (3 * f + 1)))) one
 
-  no_out : (frame : Frame) (o : Seat × M) → In o (to_others me frame) → ⊥
+  pub no_out : (frame : Frame) (o : Seat × M) → In o (to_others me frame) → ⊥
   no_out frame o i = subst (In o) (no_others frame) i
 
   module _ (D : M → Type 0) (x0 : Node) where
-    goes_on : (s : Step M) (next : Node) (out : Sends M) → Going me D x0 s → Grows s.0 next → next.heard.held ≡ s.0.heard.held → ((o : Seat × M) → In o out → AgreeOut me D next o.1) → Going me D x0 (next, s.1 ++ out)
+    pub goes_on : (s : Step M) (next : Node) (out : Sends M) → Going me D x0 s → Grows s.0 next → next.heard.held ≡ s.0.heard.held → ((o : Seat × M) → In o out → AgreeOut me D next o.1) → Going me D x0 (next, s.1 ++ out)
     goes_on s next out g grows held outs = record {
       grows = λ n a h. grows n a (g.grows n a h);
       held = held ∙ g.held;
@@ -192,7 +188,7 @@ module _ {M : Type 0} (me : Self M) (own : me.own ≡ 0) (one : me.means.params.
           let number = agreed_number x n a e in
           (ap (agreed_at x) number ∙ e, subst (λ (k : ℕ). k ≤ me.means.params.numbers) (sym number) few)
 
-  passes-is : (D : M → Type 0) (x0 : Node) (s : Step M) → Going me D x0 s → Going me D x0 (passes me s)
+  pub passes-is : (D : M → Type 0) (x0 : Node) (s : Step M) → Going me D x0 s → Going me D x0 (passes me s)
   passes-is D x0 s g =
       let all = numbers me in
       let offered = any-is D x0 (offers_request me) good_request s.0.heard.requests _ (any-is D x0 (offers_choice me) good_choice all s g) in
@@ -203,15 +199,15 @@ module _ {M : Type 0} (me : Self M) (own : me.own ≡ 0) (one : me.means.params.
   -- ---- what it hears
 
   module _ (K : Seat → M → Type 0) where
-    record Hearing (x : Node) (s : Step M) : Type 0 where
-      committed : s.0.committed ≡ x.committed
-      held : (r : Reply) → In r s.0.heard.held → HeardReply me K r
-      outs : (o : Seat × M) → In o s.1 → SentDown me K o.1
+    pub record Hearing (x : Node) (s : Step M) : Type 0 where
+      pub committed : s.0.committed ≡ x.committed
+      pub held : (r : Reply) → In r s.0.heard.held → HeardReply me K r
+      pub outs : (o : Seat × M) → In o s.1 → SentDown me K o.1
 
-    abbrev HeldHeard : Node → Type 0
+    abbrev pub HeldHeard : Node → Type 0
     HeldHeard x = (r : Reply) → In r x.heard.held → HeardReply me K r
 
-    abbrev MayHear : Node → Option (Step M) → Type 0
+    abbrev pub MayHear : Node → Option (Step M) → Type 0
     MayHear x None = Unit {0}
     MayHear x (Some s) = Hearing x s
 
@@ -242,46 +238,14 @@ module _ {M : Type 0} (me : Self M) (own : me.own ≡ 0) (one : me.means.params.
               record { reply = r; heard = new; is = ap (λ (u : Seat × M). u.1) to.2 };
         }
 
-    hears-is : (x : Node) (from : Seat) (m : M) (frame : Frame) → K from m → me.means.read m ≡ Some frame → HeldHeard x → MayHear x (hears me x from frame)
+    pub hears-is : (x : Node) (from : Seat) (m : M) (frame : Frame) → K from m → me.means.read m ≡ Some frame → HeldHeard x → MayHear x (hears me x from frame)
     hears-is x (Client c) m (Asks r) k e h = request-is x (Client c) r (reply_to me x r.client r.stamp) (λ y q. held_reply me x r.client r.stamp y q) h
     hears-is x (Agree i) m (Proposes q) k e h = record { committed = refl; held = h; outs = λ o i. absurd i }
     hears-is x (Agree i) m (Votes v) k e h = record { committed = refl; held = h; outs = λ o i. absurd i }
     hears-is x (Filter zero c) m (Replies r) k e h = reply-is x r (record { column = c; message = m; heard = k; read = e }) h
     hears-is x _ m _ k e h = tt
 
-    record Goes (x : Node) (s : Step M) : Type 0 where
-      grows : Grows x s.0
-      held : HeldHeard s.0
-      outs : (o : Seat × M) → In o s.1 → AgreeOut me (SentDown me K) s.0 o.1
-
-    passes_after-is : (x : Node) (o : Option (Step M)) → MayHear x o → HeldHeard x → Goes x (passes_after me x o)
-    passes_after-is x None c h = record { grows = λ n a e. e; held = h; outs = λ o i. absurd i }
-    passes_after-is x (Some s) c h =
-        let start : Going me (SentDown me K) s.0 s = record { grows = λ n a e. e; held = refl; outs = λ o i. inr (c.outs o i) } in
-        let end = passes-is (SentDown me K) s.0 s start in
-        record {
-          grows = λ n a e. end.grows n a (ap (λ (l : List Agreed). first_at (λ (b : Agreed). Some (b.number, b)) l n) c.committed ∙ e);
-          held = subst (λ (l : List Reply). (r : Reply) → In r l → HeardReply me K r) (sym end.held) c.held;
-          outs = end.outs;
-        }
-
-    agree_next-is : {O : Type 0} (x : Node) (i : Input M O) → Hears K i → HeldHeard x → Goes x (agree_next me x i)
-    agree_next-is x (Heard from m) k h = passes_after-is x _ (by (admitted me.means (Agree me.own) from m) refl) h
-      where
-        by : (o : Option Frame) → admitted me.means (Agree me.own) from m ≡ o → MayHear x (option_and_then (hears me x from) o)
-        by None e = tt
-        by (Some frame) e = hears-is x from m frame k ((when-some _ (me.means.read m) frame e).1) h
-    agree_next-is x Tick k h = record { grows = λ n a e. e; held = h; outs = λ o i. absurd i }
-    agree_next-is x (Submitted op) k h = record { grows = λ n a e. e; held = h; outs = λ o i. absurd i }
-
-    held_always : {O : Type 0} (h : List (Input M O)) → AllHeard K h → HeldHeard (kept (agree_role me) h)
-    held_always [] a = λ r i. absurd i
-    held_always (i ∷ h) a = (agree_next-is (kept (agree_role me) h) i a.0 (held_always h a.1)).held
-
-    -- what was sent ever, by what is committed now
-    pub agree_sent : {O : Type 0} (h : List (Input M O)) → AllHeard K h → (o : Seat × M) → EverSent (sends (agree_role me)) h o → AgreeOut me (SentDown me K) (kept (agree_role me) h) o.1
-    agree_sent [] a o s = absurd s
-    agree_sent (i ∷ h) a o (inl s) = (agree_next-is (kept (agree_role me) h) i a.0 (held_always h a.1)).outs o s
-    agree_sent (i ∷ h) a o (inr s) =
-        out_later me (SentDown me K) (kept (agree_role me) h) (kept (agree_role me) (i ∷ h)) o.1
-        (agree_next-is (kept (agree_role me) h) i a.0 (held_always h a.1)).grows (agree_sent h a.1 o s)
+    pub record Goes (x : Node) (s : Step M) : Type 0 where
+      pub grows : Grows x s.0
+      pub held : HeldHeard s.0
+      pub outs : (o : Seat × M) → In o s.1 → AgreeOut me (SentDown me K) s.0 o.1

@@ -2,6 +2,7 @@
 pub mod Within
 pub mod Frames
 pub mod Agreeing
+pub mod Ticking
 pub mod Speaking
 pub mod OneList
 pub mod Values

@@ -21,7 +21,8 @@ use Rattle.fw_deal.specs.Deals.{PlainDeal, hand_of}
 use Rattle.fw_means.specs.Means.{written}
 use Rattle.fw_node.specs.Histories.{Taken}
 use Rattle.fw_rules.specs.Means.{Means}
-use Rattle.fw_rules.specs.Agree.{Node, Self, agreed_at, agree_role}
+use Rattle.fw_rules.specs.Agree.{Node, Self, agreed_at}
+use Rattle.fw_rules.specs.Views.{agree_role}
 use Rattle.fw_rules.specs.Roles.{client_speech, executor_speech, filter_speech}
 use Rattle.fw_rules.specs.Deployed.{means_of, bodies_of, rule_by}
 use Rattle.fw_rules.specs.World.{rule_at, rules, trace_after, agreed, agreed_in}
@@ -29,7 +30,8 @@ use Rattle.fw_law_honest.specs.Laws.{OneDecides, deployed}
 use Rattle.fw_law_honest.proofs.Within.{Known, SendsSuch, all_such}
 use Rattle.fw_source.proofs.Listed.{EachFrom, EachFrom-weaken, EachFrom-below, first_at-found, greatest_of-above, front_longer}
 use Rattle.fw_law_honest.proofs.Frames.{agreed_is, same_number, kind_in, other_kind}
-use Rattle.fw_law_honest.proofs.Agreeing.{SentDown, AgreeOut, agree_sent}
+use Rattle.fw_law_honest.proofs.Agreeing.{SentDown, AgreeOut}
+use Rattle.fw_law_honest.proofs.Ticking.{agree_sent_views}
 use Rattle.fw_law_exec.proofs.Telling.{ExecOut, executor_sends}
 use Rattle.fw_law_filter.proofs.Sending.{FilterOut, filter_sends}
 use Rattle.fw_law_client.proofs.Asked.{client_sends}
@@ -102,7 +104,7 @@ module _ (deal : PlainDeal) (d : PlainDirectory) (dealt : OneDecides deal d) (ev
   pub from_node : (i : ℕ) (to : Seat) (m : List ℕ) → i ≡ 0 → Pooled (pool_of deal d events) to (Agree i) m
       → AgreeOut (node_of deal d i) (SentDown (node_of deal d i) (Pooled (pool_of deal d events) (Agree i))) (state_of deal d events i) m
   from_node i to m own there =
-      agree_sent (node_of deal d i) own (one_fault_less deal d dealt) (Pooled (pool_of deal d events) (Agree i)) (inputs deal d events (Agree i)) (heard (Agree i)) (to, m)
+      agree_sent_views (node_of deal d i) own (one_fault_less deal d dealt) (Pooled (pool_of deal d events) (Agree i)) (inputs deal d events (Agree i)) (heard (Agree i)) (to, m)
       (ever_at_seat deal d (Agree i) (inputs deal d events (Agree i)) (to, m) (ever_sent to (Agree i) m there))
 
   -- each agreed frame is that of what the first node committed

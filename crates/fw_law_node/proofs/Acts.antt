@@ -8,7 +8,7 @@ use Rattle.fw_trace.specs.Lists.{In}
 use Rattle.fw_frame.specs.View.{Request, Entry, Signer, Change, NewView, Propose, Agreed}
 use Rattle.fw_rules.specs.Signing.{entry_digest}
 use Rattle.fw_rules.specs.Agree.{Self, Node, Step, Act, Offer, Prepare, Pledge_to, Commit, Up, performs, acted, for_each, chosen, makes_offers, casts_votes, commits_and_sends, enough, nodes, numbers, offers_choice, offers_request, is_primary, is_waiting, top, choice, cast_at, next_number, prepares, prepares_one, may_prepare, pledges, pledges_cast, pledge_of, pledge_at, vote_quorum, commits, commits_in, commits_by, commit_with, seen_of, agreed_at, goes_up, up_of}
-use Rattle.fw_views.specs.Views.{Turn, Adopt, Start, Make, turns, turned, single, changes_view, passes, adopts, adopts_at, adopts_one, joins, joins_at, makes, make_of, change_of, views_down}
+use Rattle.fw_rules.specs.Views.{Turn, Adopt, Start, Make, turns, turned, single, changes_view, passes, adopts, adopts_at, adopts_one, joins, joins_at, makes, make_of, change_of, views_down}
 use Rattle.fw_law_node.specs.Facts.{IsNumber}
 use Rattle.fw_law_words.proofs.Tests.{when-some, is_some-none}
 use Rattle.fw_law_words.proofs.Firsts.{first_some-in}

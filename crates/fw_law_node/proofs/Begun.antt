@@ -9,7 +9,7 @@ use Rattle.fw_trace.specs.Lists.{In, first_at}
 use Rattle.fw_source.proofs.Listed.{first_at-found}
 use Rattle.fw_frame.specs.View.{Change, NewView, Agreed}
 use Rattle.fw_rules.specs.Agree.{Self, Node, Adopted, Act, Offer, Prepare, Pledge_to, Commit, Up, performs, nodes, Own}
-use Rattle.fw_views.specs.Views.{Turn, Adopt, Start, Make, turns, change_of, changes_by}
+use Rattle.fw_rules.specs.Views.{Turn, Adopt, Start, Make, turns, change_of, changes_by}
 use Rattle.fw_law_node.specs.Once.{node_after}
 use Rattle.fw_law_node.specs.Begun.{IsRemembered, IsMade, AreBegun, AreCommitted, agreed_place}
 use Rattle.fw_law_node.specs.Facts.{AreQuorum, signed_by}

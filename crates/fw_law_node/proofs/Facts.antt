@@ -11,7 +11,7 @@ use Rattle.fw_trace.specs.Lists.{In}
 use Rattle.fw_frame.specs.View.{Entry, Signer, Proof, Change}
 use Rattle.fw_rules.specs.Signing.{entry_digest}
 use Rattle.fw_rules.specs.Agree.{Self, Own, Node, Cast, Pledge, Adopted, Act, Offer, Prepare, Pledge_to, Commit, Up, performs, top, choice, best, proofs_of, numbers, cast_if, chosen, last_changes, new_node}
-use Rattle.fw_views.specs.Views.{Turn, Adopt, Start, Make, turns, own_change}
+use Rattle.fw_rules.specs.Views.{Turn, Adopt, Start, Make, turns, own_change}
 use Rattle.fw_law_node.specs.Once.{own_after}
 use Rattle.fw_law_node.specs.Facts.{IsNumber, HasCast, HasProof, FollowsNewView, HasProofSince, IsBegun, KeepsTo}
 use Rattle.fw_law_words.proofs.Tests.{when-some}

@@ -15,7 +15,7 @@ use Rattle.fw_frame.specs.Parts.{Part, Piece, Signed, Unsigned, pieces, request_
 use Rattle.fw_frame.specs.View.{Entry, Signer, Proof, Change, NewView, Vote, Agreed, Reply, Frame, Proposes, Votes, Begins, Agrees, Replies, plain_of, plain_request_of, plain_entry_of, plain_signer_of, plain_proof_of, plain_change_of}
 use Rattle.fw_rules.specs.Signing.{entry_digest, new_view_text}
 use Rattle.fw_rules.specs.Agree.{Self, Memory, Own, Node, Cast, Pledge, Adopted, own_vote, own_proposal, best, proofs_of, all_proofs, choice, entry_or_null, last_changes, vote_quorum, signers_of, signer_of, signer_if, is_vote, nodes, numbers, agreed_at, to_others, to_row0, reply_to}
-use Rattle.fw_views.specs.Views.{own_change, own_new_view, bare_new_view, best_proofs, change_of, changes_by, entries_of}
+use Rattle.fw_rules.specs.Views.{own_change, own_new_view, bare_new_view, best_proofs, change_of, changes_by, entries_of}
 use Rattle.fw_law_node.specs.Sources.{Names, IsOwn}
 use Rattle.fw_law_words.proofs.Tests.{when-some}
 use Rattle.fw_law_words.proofs.Firsts.{first_some-in}

@@ -6,7 +6,7 @@ use Rattle.fw_trace.specs.Lists.{In}
 use Rattle.fw_frame.specs.View.{Change}
 use Rattle.fw_rules.specs.Choices.{first_some}
 use Rattle.fw_rules.specs.Agree.{Self, Own, Node, Cast, Pledge, Adopted, Act, Offer, Prepare, Pledge_to, Commit, Up, greatest, cast_if, pledge_if, performs, new_node}
-use Rattle.fw_views.specs.Views.{Turn, Adopt, Start, Make, turns}
+use Rattle.fw_rules.specs.Views.{Turn, Adopt, Start, Make, turns}
 use Rattle.fw_law_node.specs.Once.{Once, cast_place, pledge_place, change_place, adopted_place, DidOnce, own_after}
 use Rattle.fw_law_words.proofs.Tests.{when-false, when-none}
 use Rattle.fw_law_words.proofs.Firsts.{first_some-none, first_some-skip}

@@ -7,7 +7,7 @@ use Rattle.fw_trace.specs.declared.Input.{Input}
 use Rattle.fw_frame.specs.View.{Change}
 use Rattle.fw_rules.specs.Signing.{entry_digest, change_text, new_view_text}
 use Rattle.fw_rules.specs.Agree.{Self, Own, Cast, Pledge, Adopted}
-use Rattle.fw_views.specs.Views.{bare_new_view}
+use Rattle.fw_rules.specs.Views.{bare_new_view}
 use Rattle.fw_law_node.specs.Once.{DidOnce, own_after, cast_place, pledge_place, change_place, adopted_place}
 use Rattle.fw_law_node.specs.Sources.{Names}
 use Rattle.fw_law_node.proofs.Once.{once_same, did_once}

@@ -11,7 +11,7 @@ use Rattle.fw_trace.specs.Role.{kept}
 use Rattle.fw_frame.specs.View.{Request, Reply, Frame, Asks, Proposes, Votes, Changes, Begins, Replies}
 use Rattle.fw_rules.specs.Choices.{admitted}
 use Rattle.fw_rules.specs.Agree.{Self, Own, Node, Step, Act, performs, new_node, hears, hears_request, hears_reply, reply_of, reply_to, same_request}
-use Rattle.fw_views.specs.Views.{Turn, Start, turns, agree_role, agree_next, hears_all, passes_after, ticks, waits_by, starts_change, idle_now, PATIENCE}
+use Rattle.fw_rules.specs.Views.{Turn, Start, turns, agree_role, agree_next, hears_all, passes_after, ticks, waits_by, starts_change, idle_now, PATIENCE}
 use Rattle.fw_law_node.proofs.Acts.{MayTurn, MayAct, Keeps, passes_keep}
 
 -- each act that may be chosen keeps I

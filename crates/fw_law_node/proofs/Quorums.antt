@@ -10,7 +10,7 @@ use Rattle.fw_base.specs.Sizes.{agreements, quorum}
 use Rattle.fw_trace.specs.Lists.{In}
 use Rattle.fw_frame.specs.View.{Signer, Change, Vote}
 use Rattle.fw_rules.specs.Agree.{Self, Node, enough, nodes, signer_of, signer_if, vote_quorum}
-use Rattle.fw_views.specs.Views.{change_of, change_if, changes_by}
+use Rattle.fw_rules.specs.Views.{change_of, change_if, changes_by}
 use Rattle.fw_law_node.specs.Facts.{AreQuorum, signed_by}
 use Rattle.fw_law_words.proofs.Tests.{when-some}
 use Rattle.fw_law_words.proofs.Firsts.{first_some-in}

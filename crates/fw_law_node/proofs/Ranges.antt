@@ -5,7 +5,7 @@ use Rattle.fw_trace.specs.declared.Input.{Input}
 use Rattle.fw_trace.specs.Lists.{In}
 use Rattle.fw_frame.specs.View.{Entry, Proof, Change}
 use Rattle.fw_rules.specs.Agree.{Self, Own, Node, Cast, Pledge, Adopted, Act, Offer, Prepare, Pledge_to, Commit, Up, performs, best, proofs_of, numbers, new_node}
-use Rattle.fw_views.specs.Views.{Turn, Adopt, Start, Make, turns, own_change}
+use Rattle.fw_rules.specs.Views.{Turn, Adopt, Start, Make, turns, own_change}
 use Rattle.fw_law_node.specs.Once.{own_after}
 use Rattle.fw_law_node.specs.Facts.{IsNumber}
 use Rattle.fw_law_node.specs.Ranges.{IsPlace, IsProof, IsChangeBy, InRange}

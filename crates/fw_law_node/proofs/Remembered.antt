@@ -12,7 +12,7 @@ use Rattle.fw_trace.proofs.Words.{In-append}
 use Rattle.fw_frame.specs.View.{Request, Change, NewView, Propose, Reply, Frame, Asks, Proposes, Votes, Changes, Begins, Replies}
 use Rattle.fw_rules.specs.Choices.{admitted}
 use Rattle.fw_rules.specs.Agree.{Self, Memory, Node, Step, Act, Offer, Prepare, Pledge_to, Commit, Up, acted, hears, hears_request, hears_reply, reply_of, reply_to, same_request}
-use Rattle.fw_views.specs.Views.{Turn, Adopt, Start, Make, turned, hears_all, passes_after, ticks, waits_by, starts_change}
+use Rattle.fw_rules.specs.Views.{Turn, Adopt, Start, Make, turned, hears_all, passes_after, ticks, waits_by, starts_change}
 use Rattle.fw_law_node.specs.Once.{node_after}
 use Rattle.fw_law_node.specs.Remembered.{WasAdmitted, Remembers}
 use Rattle.fw_law_node.proofs.Acts.{Keeps, passes_keep}

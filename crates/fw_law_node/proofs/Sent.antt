@@ -13,7 +13,7 @@ use Rattle.fw_frame.specs.View.{Request, Entry, Given, Change, Agreed, Reply, Fr
 use Rattle.fw_rules.specs.Choices.{admitted, first_some}
 use Rattle.fw_rules.specs.Signing.{entry_digest}
 use Rattle.fw_rules.specs.Agree.{Self, Node, Step, Cast, Pledge, Adopted, Act, Offer, Prepare, Pledge_to, Commit, Up, performs, own_vote, own_proposal, cast_at, pledge_at, is_primary, numbers, hears, hears_request, hears_reply, reply_of, reply_to, to_others, to_row0}
-use Rattle.fw_views.specs.Views.{Turn, Adopt, Start, Make, turns, own_change, own_new_view, agree_next, agree_role, hears_all, passes_after, change_if, ticks, waits, waits_by, starts_change, idle_now, PATIENCE, resends, uncommitted, resends_at, resends_cast, resends_pledge, resends_change, agreed_again}
+use Rattle.fw_rules.specs.Views.{Turn, Adopt, Start, Make, turns, own_change, own_new_view, agree_next, agree_role, hears_all, passes_after, change_if, ticks, waits, waits_by, starts_change, idle_now, PATIENCE, resends, uncommitted, resends_at, resends_cast, resends_pledge, resends_change, agreed_again}
 use Rattle.fw_law_node.specs.Once.{node_after}
 use Rattle.fw_law_node.specs.Begun.{IsMade}
 use Rattle.fw_law_node.specs.Sent.{IsOf, IsSent}

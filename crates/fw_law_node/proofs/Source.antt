@@ -18,7 +18,7 @@ use Rattle.fw_frame.specs.View.{Request, Entry, Given, Change, NewView, Propose,
 use Rattle.fw_rules.specs.Choices.{admitted, first_some}
 use Rattle.fw_rules.specs.Signing.{entry_digest}
 use Rattle.fw_rules.specs.Agree.{Self, Own, Node, Step, Cast, Act, Offer, Prepare, Pledge_to, Commit, Up, performs, acted, own_vote, own_proposal, chosen, cast_at, cast_if, pledge_at, is_primary, nodes, seen_if, new_node, hears, hears_request, hears_reply, hears_proposal, same_request, reply_of, reply_to}
-use Rattle.fw_views.specs.Views.{Turn, Adopt, Start, Make, turns, turned, adopt, own_change, own_new_view, agree_next, agree_role, hears_all, passes_after, change_of, change_if, ticks, waits, waits_by, starts_change, idle_now, PATIENCE, resends, resends_at, resends_cast, resends_pledge, resends_change, agreed_again}
+use Rattle.fw_rules.specs.Views.{Turn, Adopt, Start, Make, turns, turned, adopt, own_change, own_new_view, agree_next, agree_role, hears_all, passes_after, change_of, change_if, ticks, waits, waits_by, starts_change, idle_now, PATIENCE, resends, resends_at, resends_cast, resends_pledge, resends_change, agreed_again}
 use Rattle.fw_law_node.specs.Once.{node_after, own_after}
 use Rattle.fw_law_node.specs.Sources.{IsOwn, WasHeard, IsSourced}
 use Rattle.fw_law_node.proofs.Found.{lead_of, cast_in, pledge_in}

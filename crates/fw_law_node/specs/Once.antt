@@ -5,7 +5,7 @@ use Rattle.fw_trace.specs.Lists.{In}
 use Rattle.fw_trace.specs.Role.{kept}
 use Rattle.fw_frame.specs.View.{Change}
 use Rattle.fw_rules.specs.Agree.{Self, Node, Own, Cast, Pledge, Adopted}
-use Rattle.fw_views.specs.Views.{agree_role}
+use Rattle.fw_rules.specs.Views.{agree_role}
 
 -- what an agreement node keeps after a history, and what it did itself
 abbrev pub node_after : {M O : Type 0} → Self M → List (Input M O) → Node

@@ -5,7 +5,7 @@ use Rattle.fw_trace.specs.Lists.{In}
 use Rattle.fw_frame.specs.View.{Frame, Proposes, Votes, Changes, Begins, Agrees, Replies}
 use Rattle.fw_rules.specs.Signing.{entry_digest}
 use Rattle.fw_rules.specs.Agree.{Self, Node, Cast, Pledge, Adopted, own_vote, own_proposal}
-use Rattle.fw_views.specs.Views.{own_new_view}
+use Rattle.fw_rules.specs.Views.{own_new_view}
 use Rattle.fw_law_node.specs.Begun.{IsMade}
 
 -- a proposal or a vote that it has cast, a view change, a new view that it made, what it has committed, or a reply that it holds

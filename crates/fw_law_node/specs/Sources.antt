@@ -13,7 +13,7 @@ use Rattle.fw_frame.specs.View.{Change, Frame, plain_of}
 use Rattle.fw_rules.specs.Choices.{admitted}
 use Rattle.fw_rules.specs.Signing.{entry_digest, change_text, new_view_text}
 use Rattle.fw_rules.specs.Agree.{Self, Own, Cast, Pledge, Adopted}
-use Rattle.fw_views.specs.Views.{bare_new_view}
+use Rattle.fw_rules.specs.Views.{bare_new_view}
 use Rattle.fw_law_node.specs.Once.{own_after}
 
 -- ---- what a node has made

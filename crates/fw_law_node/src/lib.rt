@@ -9,7 +9,7 @@ ghost use Rattle.fw_trace.specs.declared.Input.{Input};
 ghost use Rattle.fw_trace.specs.Lists.{In};
 ghost use Rattle.fw_trace.specs.Role.{sends};
 ghost use Rattle.fw_rules.specs.Agree.{Self as Me};
-ghost use Rattle.fw_views.specs.Views.{agree_role};
+ghost use Rattle.fw_rules.specs.Views.{agree_role};
 ghost use Rattle.fw_law_node.specs.Once.{DidOnce, node_after, own_after};
 ghost use Rattle.fw_law_node.specs.Facts.{KeepsTo};
 ghost use Rattle.fw_law_node.specs.Ranges.{InRange};

@@ -9,7 +9,7 @@ use Rattle.fw_trace.specs.declared.Input.TheVariants.{Heard, Tick, Submitted}
 use Rattle.fw_trace.specs.Lists.{In}
 use Rattle.fw_rules.specs.Choices.{admitted}
 use Rattle.fw_rules.specs.Agree.{Self, Node, Step, Act, performs, for_each, new_node, numbers, nodes, is_primary, makes_offers, casts_votes, commits_and_sends, offers_choice, offers_request, prepares, pledges, commits, commits_in, goes_up, cast_at, choice, chosen, Offer, Pledge_to, Prepare, Commit, Up}
-use Rattle.fw_views.specs.Views.{passes, passes_after, changes_view, hears_all, ticks, adopts_at, joins_at, others_for, sent_for, Start}
+use Rattle.fw_rules.specs.Views.{passes, passes_after, changes_view, hears_all, ticks, adopts_at, joins_at, others_for, sent_for, Start}
 use Rattle.fw_law_node.specs.Once.{node_after}
 use Rattle.fw_law_words.proofs.Tests.{when-false, when-nothing}
 use Rattle.fw_law_words.proofs.Firsts.{first_some-nowhere}

@@ -3,7 +3,7 @@ use Rattle.std.proofs.Common.{ℕ, zero, suc, ◌+◌, ◌<◌, ◌≡◌, inl, 
 use Rattle.fw_list.specs.Lists.{numbers_from}
 use Rattle.fw_trace.specs.Lists.{In}
 use Rattle.fw_rules.specs.Agree.{Self, Node, Step, Act, performs, acted, for_each}
-use Rattle.fw_views.specs.Views.{Turn, turns, turned, single}
+use Rattle.fw_rules.specs.Views.{Turn, turns, turned, single}
 use Rattle.fw_law_words.proofs.Lists.{In-numbers}
 use Rattle.fw_law_node.proofs.Each.{Each, Each-at}
 

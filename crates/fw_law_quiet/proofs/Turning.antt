@@ -6,7 +6,7 @@ use Rattle.fw_frame.specs.View.{Change}
 use Rattle.fw_rules.specs.Choices.{first_some}
 use Rattle.fw_rules.specs.Agree.{Self, Node, Step, Act, Offer, Prepare, Pledge_to, Commit, Up, performs, enough, nodes, is_primary}
 use Rattle.fw_means.specs.Means.{when}
-use Rattle.fw_views.specs.Views.{Turn, Adopt, Start, Make, turns, single, changes_view, views_down, adopts, adopts_at, adopts_one, joins, joins_at, others_for, makes, make_of, change_of}
+use Rattle.fw_rules.specs.Views.{Turn, Adopt, Start, Make, turns, single, changes_view, views_down, adopts, adopts_at, adopts_one, joins, joins_at, others_for, makes, make_of, change_of}
 use Rattle.fw_law_words.proofs.Tests.{when-some, when-false, when-less, when-nothing}
 use Rattle.fw_law_words.proofs.Firsts.{first_some-in, first_some-skip}
 use Rattle.fw_law_quiet.specs.Quiet.{IsTurned}

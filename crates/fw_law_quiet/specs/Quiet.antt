@@ -3,7 +3,7 @@ use Rattle.std.specs.Prelude.{ℕ, ◌≡◌, None}
 use Rattle.fw_trace.specs.Lists.{In}
 use Rattle.fw_frame.specs.View.{Request}
 use Rattle.fw_rules.specs.Agree.{Self, Node, numbers, offers_choice, offers_request, prepares, pledges, commits, goes_up}
-use Rattle.fw_views.specs.Views.{adopts, joins, makes}
+use Rattle.fw_rules.specs.Views.{adopts, joins, makes}
 
 -- no new view to adopt, no view change to join, and no new view to make
 pub record IsTurned {M : Type 0} (me : Self M) (x : Node) : Type 0 where

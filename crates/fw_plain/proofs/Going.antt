@@ -9,7 +9,7 @@ use Rattle.fw_trace.specs.Filter.{filter_role}
 use Rattle.fw_directory.specs.Directories.{PlainDirectory}
 use Rattle.fw_hand.specs.Hands.{PlainHand}
 use Rattle.fw_node.specs.Histories.{History, Out}
-use Rattle.fw_rules.specs.Agree.{agree_role}
+use Rattle.fw_rules.specs.Views.{agree_role}
 use Rattle.fw_rules.specs.Deployed.{means_of, bodies_of, rule_by}
 use Rattle.fw_rules.specs.Roles as roles
 use Rattle.fw_kept.specs.Kept.{self_of}

@@ -3,6 +3,7 @@ pub mod Signing
 pub mod Means
 pub mod Choices
 pub mod Agree
+pub mod Views
 pub mod Roles
 pub mod Deployed
 pub mod World

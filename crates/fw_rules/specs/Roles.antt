@@ -23,7 +23,7 @@ use Rattle.fw_rules.specs.Signing.{request_text, reply_text}
 use Rattle.fw_rules.specs.Means.{Means, Bodies}
 use Rattle.fw_means.specs.Means.{when}
 use Rattle.fw_rules.specs.Choices.{first_some, admitted}
-use Rattle.fw_rules.specs.Agree.{agree_role}
+use Rattle.fw_rules.specs.Views.{agree_role}
 
 -- ---- the client c
 

@@ -11,15 +11,14 @@ use Rattle.fw_report.specs.declared.summary.AcceptLine.{AcceptLine}
 use Rattle.fw_report.specs.declared.summary.CrossLine.{CrossLine}
 use Rattle.fw_report.specs.declared.summary.Summary.{Summary}
 use Rattle.fw_pool.specs.Counts.{submissions}
-use Rattle.fw_seen.specs.Summary.{agreed_lines, accept_lines, cross_lines, summary_of}
-use Rattle.fw_seen.proofs.Views.{first_view}
+use Rattle.fw_seen.specs.Summary.{agreed_lines, accept_lines, cross_lines, greatest_view, summary_of}
 use Rattle.fw_seen.proofs.Submitted.{waiting_in_all}
 
-pub summary_is : (d : Deployed) (t : Trace (List ℕ) Op) (agreed_part : List AgreedLine) (accepted : List AcceptLine) (cross : List CrossLine) (waiting : ℕ) (rest : Bool) (events frames : ℕ)
+pub summary_is : (d : Deployed) (t : Trace (List ℕ) Op) (agreed_part : List AgreedLine) (accepted : List AcceptLine) (cross : List CrossLine) (waiting : ℕ) (rest : Bool) (view events frames : ℕ)
     → agreed_part ≡ agreed_lines (d.hand (Exec 0)) 1 (agreed d t) → accepted ≡ accept_lines d t (numbers_from 0 d.directory.params.clients) → cross ≡ cross_lines d.directory.params t.pool (numbers_from 0 (width d.directory.params))
-    → waiting ≡ submissions d.directory.params t.log - length accepted → rest ≡ rests_from (rules d) t.log 0 t.pool → events ≡ length t.log → frames ≡ length t.pool
-    → ◌≡◌ {A = Summary} (record { agreed = agreed_part; accepted = accepted; cross = cross; waiting = waiting; rest = rest; view = 0; events = events; frames = frames }) (summary_of d t)
+    → waiting ≡ submissions d.directory.params t.log - length accepted → rest ≡ rests_from (rules d) t.log 0 t.pool → view ≡ greatest_view d t → events ≡ length t.log → frames ≡ length t.pool
+    → ◌≡◌ {A = Summary} (record { agreed = agreed_part; accepted = accepted; cross = cross; waiting = waiting; rest = rest; view = view; events = events; frames = frames }) (summary_of d t)
 unfolding summary_of
-summary_is d t agreed_part accepted cross waiting rest events frames e1 e2 e3 e4 e5 e6 e7 =
+summary_is d t agreed_part accepted cross waiting rest view events frames e1 e2 e3 e4 e5 e6 e7 e8 =
     let waits = e4 ∙ ap (λ (ls : List AcceptLine). submissions d.directory.params t.log - length ls) e2 ∙ sym (waiting_in_all d t) in
-    rw (e1, waits, e2, e3, e5, e6, e7, first_view d t) refl
+    rw (e1, waits, e2, e3, e5, e6, e7, e8) refl

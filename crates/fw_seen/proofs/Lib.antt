@@ -2,6 +2,5 @@
 pub mod Counting
 pub mod Told
 pub mod Clients
-pub mod Views
 pub mod Submitted
 pub mod Composed

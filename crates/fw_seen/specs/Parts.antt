@@ -12,8 +12,9 @@ use Rattle.fw_client.specs.Standing.{Asker}
 use Rattle.fw_seen.specs.declared.whole.Counts.{Counts}
 use Rattle.fw_pool.specs.Counts.{submissions}
 use Rattle.fw_seen.specs.Clients.{AreClientsOf}
+use Rattle.fw_seen.specs.Summary.{greatest_view}
 
--- they are those of a trace in a deployment: its directory, an executor's hand, all clients, the pool, and counts of the log
+-- they are those of a trace in a deployment: its directory, an executor's hand, all clients, the pool, counts of the log, and the greatest view
 pub record ArePartsOf (stands : Asker → PlainDirectory → History → Type 0) (d : Deployed) (t : Trace (List ℕ) Op) (of : PlainDirectory) (hand : PlainHand) (nodes : List Asker) (frames : List (Sent (List ℕ))) (counts : Counts) : Type 0 where
   pub directory : of ≡ d.directory
   pub keys : hand ≡ d.hand (Exec 0)
@@ -23,3 +24,4 @@ pub record ArePartsOf (stands : Asker → PlainDirectory → History → Type 0)
   pub submissions : counts.submissions ≡ submissions d.directory.params t.log
   pub events : counts.events ≡ length t.log
   pub rest : counts.rest ≡ rests_from (rules d) t.log 0 t.pool
+  pub view : counts.view ≡ greatest_view d t

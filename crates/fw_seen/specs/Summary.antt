@@ -19,7 +19,8 @@ use Rattle.fw_frame.specs.Undoing.{frame_in}
 use Rattle.fw_frame.specs.View.{Entry}
 use Rattle.fw_hand.specs.Hands.{PlainHand}
 use Rattle.fw_node.specs.Histories.{History}
-use Rattle.fw_rules.specs.Agree.{agree_role, greatest}
+use Rattle.fw_rules.specs.Agree.{greatest}
+use Rattle.fw_rules.specs.Views.{agree_role}
 use Rattle.fw_rules.specs.Deployed.{means_of, bodies_of}
 use Rattle.fw_rules.specs.World.{Deployed, rules, agreed, accepted_by, in_row}
 use Rattle.fw_report.specs.declared.summary.Said.{Said}

@@ -19,7 +19,7 @@ use fw_trace::Sent;
 use std::alloc::Global;
 use std::sync::ledger::Ledger;
 
-/// What a log tells.
+/// What a log tells, and how far the agreement nodes came.
 #[derive(Clone, Copy, Debug)]
 pub struct Counts {
     /// Submissions to clients of the deployment.
@@ -28,6 +28,8 @@ pub struct Counts {
     pub events: usize,
     /// Each frame between correct seats was delivered.
     pub rest: bool,
+    /// The greatest view that an agreement node is in.
+    pub view: u32,
 }
 
 /// A count, where a u32 holds it.
@@ -40,8 +42,8 @@ fn as_u32(count: usize) -> Result<u32, Memory>
     }
 }
 
-/// What a run agreed, accepted and let down: by an executor's hand, all clients, the pool, and what the log tells. The view is 0
-/// so far. The only failure is want of memory.
+/// What a run agreed, accepted and let down: by an executor's hand, all clients, the pool, and what is counted. The only failure is
+/// want of memory.
 pub fn summary<L: Ledger>(
     alloc: Global,
     directory: &Directory,
@@ -65,7 +67,7 @@ pub fn summary<L: Ledger>(
         cross: cross_lines(alloc, directory.params(), pool)?,
         waiting: as_u32(waiting)?,
         rest: counts.rest,
-        view: 0,
+        view: counts.view,
         events: as_u32(counts.events)?,
         frames: as_u32(pool.len())?,
     })

@@ -12,7 +12,7 @@ use Rattle.fw_node.proofs.Sendable.{both}
 use Rattle.fw_rules.specs.Signing.{entry_digest}
 use Rattle.fw_rules.specs.Choices.{first_some}
 use Rattle.fw_rules.specs.Agree.{Node, Self, numbers, to_others, to_row0, replied, own_vote, own_proposal, is_primary, cast_at, pledge_if, pledge_at, agreed_at}
-use Rattle.fw_views.specs.Views.{Start, change_if, idle_now, idle_after, starts_change, resends_change, resends_pledge, resends_cast, resends_at, uncommitted, resends, agreed_again, waits_by, waits, ticks}
+use Rattle.fw_rules.specs.Views.{Start, change_if, idle_now, idle_after, starts_change, resends_change, resends_pledge, resends_cast, resends_at, uncommitted, resends, agreed_again, waits_by, waits, ticks}
 use Rattle.fw_lengths.proofs.Pieces.{IsShortEntry, IsShortChange}
 use Rattle.fw_lengths.proofs.Options.{when-if, first_some-if}
 use Rattle.fw_lengths.proofs.Signed.{IsShortMeans}

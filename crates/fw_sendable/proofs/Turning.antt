@@ -13,7 +13,7 @@ use Rattle.fw_node.proofs.Sendable.{both}
 use Rattle.fw_rules.specs.Signing.{change_text, new_view_text}
 use Rattle.fw_rules.specs.Choices.{first_some}
 use Rattle.fw_rules.specs.Agree.{Node, Self, Step, nodes, numbers, enough, best, proofs_of}
-use Rattle.fw_views.specs.Views.{Turn, Adopt, Start, Make, best_proofs, bare_change, own_change, bare_new_view, own_new_view, adopt, moves_to, turns, turned, single, views_down, adopts_one, adopts_at, adopts, joins_at, joins, change_if, changes_by, change_of, make_of, makes, changes_view}
+use Rattle.fw_rules.specs.Views.{Turn, Adopt, Start, Make, best_proofs, bare_change, own_change, bare_new_view, own_new_view, adopt, moves_to, turns, turned, single, views_down, adopts_one, adopts_at, adopts, joins_at, joins, change_if, changes_by, change_of, make_of, makes, changes_view}
 use Rattle.fw_lengths.proofs.Pieces.{IsShortProof, IsShortChange}
 use Rattle.fw_lengths.proofs.Options.{all_any, when-if, first_some-if, found-all}
 use Rattle.fw_lengths.proofs.Signed.{IsShortMeans}

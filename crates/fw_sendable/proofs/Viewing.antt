@@ -17,7 +17,7 @@ use Rattle.fw_node.specs.Histories.{Taken, History, AreSendable}
 use Rattle.fw_rules.specs.Choices.{admitted}
 use Rattle.fw_rules.specs.Deployed.{means_of}
 use Rattle.fw_rules.specs.Agree.{Node, Self, Step, all_proofs, makes_offers, casts_votes}
-use Rattle.fw_views.specs.Views.{entries_of, hears_change, hears_new_view, hears_all, changes_view, passes, passes_after, ticks, agree_next, agree_role}
+use Rattle.fw_rules.specs.Views.{entries_of, hears_change, hears_new_view, hears_all, changes_view, passes, passes_after, ticks, agree_next, agree_role}
 use Rattle.fw_sendable.specs.Rule.{views_rule}
 use Rattle.fw_lengths.proofs.Pieces.{IsShortEntry, IsShortProof, IsShortChange, IsShort, IsForClients}
 use Rattle.fw_lengths.proofs.Options.{all_more, when-some, flat-all}

@@ -6,7 +6,7 @@ use Rattle.fw_hand.specs.Hands.{PlainHand}
 use Rattle.fw_node.specs.Histories.{History, Out}
 use Rattle.fw_rules.specs.Agree.{agree_role}
 use Rattle.fw_rules.specs.Deployed.{means_of}
-use Rattle.fw_views.specs.Views as views
+use Rattle.fw_rules.specs.Views as views
 
 -- what agreement node i sends on the newest input of a history, by a directory and by what a hand has
 abbrev pub agree_rule : ℕ → PlainHand → PlainDirectory → History → Out

@@ -7,12 +7,13 @@ use Rattle.std.specs.Option.{option_map, option_copied}
 use Rattle.std.proofs.lemmas.Bool.{cases_Bool, eqb-true}
 use Rattle.fw_list.specs.Lists.{numbers_from}
 use Rattle.fw_queue.specs.Backlogs.{Backlog, Numbered, frame_at, frame_with, up_to, ready, replied}
+use Rattle.fw_queue.specs.Backlogs as queue
 use Rattle.fw_rules.specs.Agree.{replied_up_to}
 use Rattle.fw_rules.specs.Agree as agree
 use Rattle.fw_owned.specs.declared.owned.OwnedReply.{OwnedReply}
 use Rattle.fw_owned.specs.Pieces.{reply_of}
 use Rattle.fw_owned.specs.declared.owned.OwnedAgreed.{OwnedAgreed}
-use Rattle.fw_settled.specs.Queued.{AreQueued, agreed_in, reply_in, next_up}
+use Rattle.fw_settled.specs.Queued.{AreQueued, agreed_in, reply_in, next_up, again}
 use Rattle.fw_owned.proofs.Found.{mapped_some}
 
 pub queued : {Kept : Type 0} (number : Kept → ℕ) (written : Kept → List ℕ) (frames : List Numbered) (kept : List Kept) (one : Kept) (frame : List ℕ)
@@ -52,3 +53,6 @@ pub ready_is : (q : Backlog) (committed : List OwnedAgreed) (replies : List Owne
 ready_is q committed replies all =
     let some : is_some (frame_at q.agreed (q.gone + 1)) ≡ is_some (agreed_in committed (q.gone + 1)) = ap is_some (all.agreed (q.gone + 1)) ∙ mapped_some _ (agreed_in committed (q.gone + 1)) in
     rw (some, replied_is q committed replies all) refl
+
+pub again_is : (q : Backlog) (committed : List OwnedAgreed) (replies : List OwnedReply) → AreQueued q committed replies → queue.again q ≡ again (record { params = q.params; committed = committed; held = replies; up = q.gone })
+again_is q committed replies all = rw (replied_is q committed replies all) refl

@@ -1,5 +1,5 @@
 -- What is agreed and what is answered, and the queue of their frames.
-use Rattle.std.specs.Prelude.{ℕ, ◌≡◌, ◌+◌, ◌&&◌, nat_eq, nat_le, List, map, Option, Some, None, is_some, if◌then◌else◌}
+use Rattle.std.specs.Prelude.{ℕ, ◌≡◌, ◌+◌, ◌&&◌, nat_eq, nat_le, nat_lt, List, map, Option, Some, None, is_some, if◌then◌else◌}
 use Rattle.std.specs.List.{find}
 use Rattle.std.specs.Option.{option_map}
 use Rattle.fw_list.specs.Lists.{numbers_from}
@@ -38,3 +38,7 @@ replied_in s = replied_up_to (map reply_of s.held) 0 (numbers_from 1 s.params.nu
 -- the number after the last that has gone up, where it is agreed and at most `pipe` above the replies
 abbrev pub next_up : SettledNumbers → Option ℕ
 next_up s = if is_some (agreed_in s.committed (s.up + 1)) && nat_le (s.up + 1) (replied_in s + s.params.pipe) then Some (s.up + 1) else None
+
+-- the first number without a reply, where it has gone up
+abbrev pub again : SettledNumbers → Option ℕ
+again s = if nat_lt (replied_in s) s.up then Some (replied_in s + 1) else None

@@ -7,7 +7,7 @@ ghost use Rattle.fw_base.specs.Sizes.{accepted};
 ghost use Rattle.fw_frame.specs.View.{Agrees, Replies};
 ghost use Rattle.fw_means.specs.Means.{written};
 ghost use Rattle.fw_owned.specs.Pieces.{agreed_of, reply_of};
-ghost use Rattle.fw_settled.specs.Queued.{agreed_in, reply_in, replied_in, next_up};
+ghost use Rattle.fw_settled.specs.Queued.{agreed_in, reply_in, replied_in, next_up, again};
 
 use fw_base::Params;
 use fw_list::Memory;
@@ -154,6 +154,13 @@ impl Settled {
         ensures { self.new ≡ record self.old { up = number } }
     {
         self.queue.gone(number);
+    }
+
+    /// The first number without a reply, exactly where it has gone up.
+    pub fn again(&self) -> Option<u32>
+        ensures { result ≡ again self.now }
+    {
+        self.queue.again()
     }
 
     /// The frame of what is agreed at a number, if something is.

@@ -7,7 +7,7 @@ use Rattle.std.proofs.lemmas.Bool.{eq-eqb, ne_eqb}
 use Rattle.fw_means.specs.Means.{when}
 use Rattle.fw_rules.specs.Agree.{Self, Node}
 use Rattle.fw_rules.specs.Choices.{first_some}
-use Rattle.fw_views.specs.Views as views
+use Rattle.fw_rules.specs.Views as views
 use Rattle.fw_heard.specs.Changed.{first_of}
 use Rattle.fw_owned.specs.declared.owned.OwnedChange.{OwnedChange}
 use Rattle.fw_owned.specs.declared.owned.OwnedNewView.{OwnedNewView}

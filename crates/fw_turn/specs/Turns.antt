@@ -1,7 +1,7 @@
 -- Turns of the view, as the rule has them.
 use Rattle.std.specs.Prelude.{◌<◌, ⊤, map}
 use Rattle.fw_base.specs.declared.params.Params.{Params}
-use Rattle.fw_views.specs.Views as views
+use Rattle.fw_rules.specs.Views as views
 use Rattle.fw_owned.specs.Pieces.{change_of}
 use Rattle.fw_turn.specs.declared.turn.Turn.{Turn}
 use Rattle.fw_turn.specs.declared.turn.Turn.TheVariants as turn

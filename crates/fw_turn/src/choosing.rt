@@ -7,7 +7,7 @@ ghost use Rattle.fw_base.specs.declared.params.Params.{Params};
 ghost use Rattle.fw_base.specs.Sizes.{accepted, quorum};
 ghost use Rattle.fw_hand.specs.Hands.{PlainHand};
 ghost use Rattle.fw_rules.specs.Agree as rules;
-ghost use Rattle.fw_views.specs.Views as views;
+ghost use Rattle.fw_rules.specs.Views as views;
 ghost use Rattle.fw_owned.specs.Pieces.{change_of};
 ghost use Rattle.fw_kept.specs.Kept.{self_of, node_of, IsFor};
 ghost use Rattle.fw_turn.specs.Turns.{turn_of, IsWithin};

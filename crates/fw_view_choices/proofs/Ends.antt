@@ -21,7 +21,7 @@ use Rattle.fw_rules.specs.Means.{Means}
 use Rattle.fw_rules.specs.Roles.{executor_speech, filter_speech}
 use Rattle.fw_rules.specs.World.{agreed_frame, in_row}
 use Rattle.fw_rules.specs.Toy.{Lie, Row, toy_bodies}
-use Rattle.fw_views.specs.Views.{agree_role}
+use Rattle.fw_rules.specs.Views.{agree_role}
 use Rattle.fw_view_runs.specs.Whole.{toy_world, sends_at, correct_nodes, EndsIn}
 use Rattle.fw_view_runs.specs.Whole as whole
 use Rattle.fw_law_words.proofs.Lists.{map_same}

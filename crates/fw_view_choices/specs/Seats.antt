@@ -21,7 +21,7 @@ use Rattle.fw_rules.specs.Means.{Means}
 use Rattle.fw_rules.specs.Roles.{Valued, executor_speech, filter_speech, client_speech}
 use Rattle.fw_rules.specs.World.{agreed_frame, in_row}
 use Rattle.fw_rules.specs.Toy.{toy_bodies, Lie, Row}
-use Rattle.fw_views.specs.Views.{agree_role}
+use Rattle.fw_rules.specs.Views.{agree_role}
 use Rattle.fw_view_runs.specs.Whole.{toy_world, correct_nodes}
 use Rattle.fw_view_choices.specs.Carried.{Carried, Roles, state_at, run}
 

@@ -22,7 +22,7 @@ use Rattle.fw_rules.specs.Means.{Means, Bodies}
 use Rattle.fw_rules.specs.Roles.{rule_of, client_speech}
 use Rattle.fw_rules.specs.World.{agreed_frame, in_row}
 use Rattle.fw_rules.specs.Toy.{toy_bodies, lie_of, Lie, Row}
-use Rattle.fw_views.specs.Views.{agree_role}
+use Rattle.fw_rules.specs.Views.{agree_role}
 
 -- what each seat sends on the newest input of its history
 abbrev pub sends_at : {M : Type 0} → Means M → Bodies → List Start → Seat → List (Input M Op) → List (Seat × M)

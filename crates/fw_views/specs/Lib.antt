@@ -1,2 +1,1 @@
 -- The files of definitions.
-pub mod Views

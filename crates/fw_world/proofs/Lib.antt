@@ -1,3 +1,4 @@
 -- The files of lemmas.
 pub mod Parts
+pub mod Views
 pub mod OwnRun

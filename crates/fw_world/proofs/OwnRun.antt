@@ -1,18 +1,17 @@
 -- The run of a deal's new nodes is the run of its deployment.
 use mathlib.Core.Path.{fun_ext}
-use Rattle.std.proofs.Common.{◌≡◌, ◌⊎◌, ℕ, ◌<◌, true, false, ◌&&◌, not, List, [], ◌∷◌, Option, Some, Ok, slice_get, refl, sym, ap, ◌∙◌, subst, inl, inr, IsTrue}
-use Rattle.std.specs.List.{list_all, list_any}
-use Rattle.std.proofs.lemmas.Bool.{and_parts}
+use Rattle.std.proofs.Common.{◌≡◌, ◌⊎◌, ℕ, ◌<◌, true, false, List, [], ◌∷◌, Option, Some, Ok, slice_get, refl, sym, ap, ◌∙◌, subst, inl, inr, IsTrue}
+use Rattle.std.specs.List.{list_all}
 use Rattle.fw_base.specs.declared.params.Params.{Params}
 use Rattle.fw_base.specs.declared.seat.Seat.{Seat}
-use Rattle.fw_base.specs.Sizes.{accepted}
-use Rattle.fw_base.specs.declared.seat.Seat.TheVariants.{Exec, Client}
+use Rattle.fw_base.specs.Sizes.{accepted, agreements}
+use Rattle.fw_base.specs.declared.seat.Seat.TheVariants.{Agree, Exec, Client}
 use Rattle.fw_op.specs.declared.op.Op.{Op}
 use Rattle.fw_op.specs.declared.start.Start.{Start}
 use Rattle.fw_step.specs.declared.step.Step.{Step}
 use Rattle.fw_step.specs.Fitting.{step_fits}
 use Rattle.fw_sched.specs.declared.plan.Plan.{Plan}
-use Rattle.fw_sched.specs.Replayed.{is_empty, is_tick, can_replay}
+use Rattle.fw_sched.specs.Replayed.{is_empty, can_replay}
 use Rattle.fw_trace.specs.Trace.{Trace, nothing}
 use Rattle.fw_trace.specs.Run as runs
 use Rattle.fw_directory.specs.Directories.{PlainDirectory}
@@ -38,8 +37,7 @@ empty_is [] e = refl
 empty_is (x ∷ xs) e = absurd (cc)
 
 pub nobody_faulty : (p : Plan) → can_replay p ≡ true → p.faulty ≡ []
-nobody_faulty p can =
-    empty_is p.faulty (and_parts (is_empty p.faulty) (not (list_any is_tick p.steps)) can).0
+nobody_faulty p can = empty_is p.faulty can
 
 -- a new world of the nodes of a deal
 abbrev pub fresh : {A E F C : Type 0} → PlainDirectory → Nodes A E F C → List Step → Staged A E F C
@@ -91,15 +89,21 @@ steps_of p d can same fit =
 -- after the run each node has its hand
 pub are_played : {A E F C : Type 0} (a : A → PlainHand) (e : E → PlainHand) (f : F → PlainHand) (c : C → PlainHand) (deal : PlainDeal) (p : Plan) (d : PlainDirectory) (nodes : Nodes A E F C) (w : Staged A E F C) (seen : Seen A E F C) (keys : PlainHand)
     → deal ≡ deal_of p → IsDirectoryOf deal.origin d → w ≡ fresh d nodes p.steps
+    → ((k : ℕ) → k < agreements deal.origin.params → hand_in a (slice_get nodes.agree k) ≡ Some (hand_of deal (Agree k)))
     → ((k : ℕ) → k < deal.origin.params.clients → hand_in c (slice_get nodes.clients k) ≡ Some (hand_of deal (Client k)))
     → keys ≡ hand_of (deal_of p) (Exec 0) → seen.failed ≡ false → seen.directory ≡ w.seen.directory → hands_in a e f c seen ≡ hands_in a e f c w.seen
-    → ArePlayed c (deployed (deal_of p) seen.directory) seen keys
-are_played {A} {E} {F} {C} a e f c deal p d nodes w seen keys is dealt new had key going directory hands =
+    → ArePlayed a c (deployed (deal_of p) seen.directory) seen keys
+are_played {A} {E} {F} {C} a e f c deal p d nodes w seen keys is dealt new had_a had key going directory hands =
     let here : seen.directory ≡ d = directory ∙ ap (λ (x : Staged A E F C). x.seen.directory) new in
     record {
       going = going;
       sizes = subst (λ (x : PlainDirectory). IsTrue (accepted x.params)) (sym here) dealt.whole.sizes;
       directory = refl;
+      agreements = λ k below.
+          ap (λ (h : Seat → Option PlainHand). h (Agree k)) hands
+          ∙ ap (λ (x : Staged A E F C). hand_in a (slice_get x.seen.nodes.agree k)) new
+          ∙ had_a k (subst (λ (q : Params). k < agreements q) dealt.sizes (subst (λ (x : PlainDirectory). k < agreements x.params) here below))
+          ∙ ap (λ (x : PlainDeal). Some (hand_of x (Agree k))) is;
       clients = λ k below.
           ap (λ (h : Seat → Option PlainHand). h (Client k)) hands
           ∙ ap (λ (x : Staged A E F C). hand_in c (slice_get x.seen.nodes.clients k)) new

@@ -14,17 +14,19 @@ use Rattle.fw_pool.specs.Counts.{submissions}
 use Rattle.fw_grid.specs.Nodes.{AreSeated, AreStanding, hand_in}
 use Rattle.fw_grid.specs.Seen.{Seen}
 use Rattle.fw_seen.specs.declared.whole.Counts.{Counts}
+use Rattle.fw_seen.specs.Summary.{greatest_view}
 use Rattle.fw_seen.specs.Parts.{ArePartsOf}
 use Rattle.fw_world.specs.Played.{ArePlayed}
 
-pub parts_of : {A E F : Type 0} (d : Deployed) (w : Seen A E F Asker) (keys : PlainHand) (of : PlainDirectory) (nodes : List Asker) (frames : List (Sent (List ℕ))) (counts : Counts)
-    → ArePlayed (λ n. n.hand) d w keys → of ≡ w.directory → nodes ≡ w.nodes.clients
+pub parts_of : {A E F : Type 0} (hand_a : A → PlainHand) (d : Deployed) (w : Seen A E F Asker) (keys : PlainHand) (of : PlainDirectory) (nodes : List Asker) (frames : List (Sent (List ℕ))) (counts : Counts)
+    → ArePlayed hand_a (λ n. n.hand) d w keys → of ≡ w.directory → nodes ≡ w.nodes.clients
     → AreSeated (λ n. n.params) (λ n. Client n.client) w.directory.params Client w.directory.params.clients nodes
     → AreStanding StandsFor (λ n. n.stopped) w.directory (λ k. history (Client k) w.trace.log) nodes
     → frames ≡ w.trace.pool → counts.submissions ≡ submissions w.directory.params w.trace.log → counts.events ≡ length w.trace.log
     → ((rule : Seat → History → Out) → counts.rest ≡ rests_from (rules_by w.directory.params rule) w.trace.log 0 w.trace.pool)
+    → counts.view ≡ greatest_view d w.trace
     → ArePartsOf StandsFor d w.trace of keys nodes frames counts
-parts_of d w keys of nodes frames counts played directory clients seated standing pool submitted events rest = record {
+parts_of hand_a d w keys of nodes frames counts played directory clients seated standing pool submitted events rest view = record {
   directory = directory ∙ played.directory;
   keys = played.executor;
   count = seated.many ∙ ap (λ x. x.params.clients) played.directory;
@@ -40,4 +42,5 @@ parts_of d w keys of nodes frames counts played directory clients seated standin
   submissions = submitted ∙ ap (λ x. submissions x.params w.trace.log) played.directory;
   events = events;
   rest = rest (rule_at d) ∙ ap (λ x. rests_from (rules_by x.params (rule_at d)) w.trace.log 0 w.trace.pool) played.directory;
+  view = view;
 }

@@ -4,6 +4,7 @@
 mod playing;
 mod replaying;
 mod reporting;
+mod viewing;
 
 pub use fw_grid::RunFault;
 pub use playing::{Cast, play};

@@ -45,7 +45,7 @@ pub fn play<L: Ledger>(
     requires can { IsTrue (can_replay plan) }
     requires deal { deal ≡ deal_of plan }
     ensures run { IfOk result (λ world. IsRunOf plan world.seen.directory world.seen.trace) }
-    ensures played { IfOk result (λ world. (keys : PlainHand) → keys ≡ hand_of (deal_of plan) (Exec 0) → ArePlayed ⟦<ClientNode as Node>⟧.hand (deployed (deal_of plan) world.seen.directory) world.seen keys) }
+    ensures played { IfOk result (λ world. (keys : PlainHand) → keys ≡ hand_of (deal_of plan) (Exec 0) → ArePlayed ⟦<AgreeNode as Node>⟧.hand ⟦<ClientNode as Node>⟧.hand (deployed (deal_of plan) world.seen.directory) world.seen keys) }
     ensures err { IfErr result (λ why. ((step : ℕ) × (which : Which) × (why ≡ RunFault.Limit step which) × FailsAt plan step which) ⊎ (why ≡ RunFault.Memory)) }
 {
     let grid = cores(alloc, &deal)?;

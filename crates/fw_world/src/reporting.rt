@@ -6,6 +6,8 @@ ghost use Rattle.fw_seen.specs.Summary.{report_of};
 ghost use Rattle.fw_world.specs.Played.{ArePlayed};
 
 use crate::playing::Cast;
+use crate::viewing::greatest_view;
+use fw_agree::AgreeNode;
 use fw_client::ClientNode;
 use fw_digest::Steps;
 use fw_hand::Hand;
@@ -23,13 +25,14 @@ pub(crate) fn report_of<L: Ledger>(
     keys: &Hand,
     steps: &mut Steps<L>,
 ) -> Result<Bytes, Memory>
-    requires { (d : Deployed) × ArePlayed ⟦<ClientNode as Node>⟧.hand d world.now.seen keys.now }
-    ensures { IfOk result (λ text. (d : Deployed) → ArePlayed ⟦<ClientNode as Node>⟧.hand d world.now.seen keys.now → text ≡ report_of d world.now.seen.trace) }
+    requires { (d : Deployed) × ArePlayed ⟦<AgreeNode as Node>⟧.hand ⟦<ClientNode as Node>⟧.hand d world.now.seen keys.now }
+    ensures { IfOk result (λ text. (d : Deployed) → ArePlayed ⟦<AgreeNode as Node>⟧.hand ⟦<ClientNode as Node>⟧.hand d world.now.seen keys.now → text ≡ report_of d world.now.seen.trace) }
 {
     let counts = Counts {
         submissions: world.submissions(),
         events: world.events(),
         rest: world.is_at_rest(),
+        view: greatest_view(world),
     };
     let summary = summary(
         alloc,

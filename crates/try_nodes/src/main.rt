@@ -3,6 +3,7 @@
 #![tactic(auto)]
 
 mod answer;
+mod changing;
 mod entries;
 mod fault;
 mod making;

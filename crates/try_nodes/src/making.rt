@@ -39,6 +39,8 @@ impl Stage {
             "share" => self.share(number(words)?, words),
             "reply" => self.reply(number(words)?, words),
             "permitted" => self.permitted(number(words)?, words),
+            "change" => self.change(words),
+            "newview" => self.new_view(words),
             "want" => {
                 let number = number(words)?;
                 Ok(Frame::Want { number }.write(self.alloc())?)

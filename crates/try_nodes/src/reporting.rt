@@ -57,6 +57,7 @@ fn reported<L: Ledger>(
         submissions: taken,
         events: pool.len(),
         rest: true,
+        view: 0,
     };
     let mut steps = Steps::<L>::new(blank);
     let told = summary(

@@ -26,6 +26,8 @@ fn kind_of(bytes: &[u8]) -> &'static str {
         Some(1) => "request",
         Some(2) => "propose",
         Some(3) => "vote",
+        Some(4) => "change",
+        Some(5) => "newview",
         Some(6) => "agreed",
         Some(7) => "share",
         Some(8) => "reply",

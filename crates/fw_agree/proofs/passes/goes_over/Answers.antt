@@ -5,7 +5,7 @@ use Rattle.fw_rules.specs.Agree.{acted, for_each}
 use Rattle.fw_kept.specs.Kept.{self_of}
 use Rattle.fw_agree.specs.Steps.{at, chooses}
 use Rattle.fw_agree.proofs.Going.{each_next}
-use Rattle.fw_agree.proofs.Beginning.{begins_on}
+use Rattle.fw_clock.proofs.Sending.{begins_over}
 use Rattle.fw_agree.proofs.passes.goes_over.Goals as goal
 
 pub loop-k-preserved : goal.loop-k-preserved
@@ -18,7 +18,7 @@ loop-k-preserved c =
     record {
       step = ap (for_each me f (numbers_from (k + 1 + 1) (end - (k + 1)))) (c.in_ok-does.ensures.step ∙ ap (acted me s) (c.in_ok-act.ensures.act c.args.hand.now)) ∙ sym (each_next me f k end s c.loop-k-test.true) ∙ c.loop-k.invariant.step;
       sizes = λ p was. c.does.ensures.sizes p (c.loop-k.invariant.sizes p was);
-      begins = begins_on c.args.out.now c.loop-k.out c.does.new.out c.loop-k.invariant.begins c.in_ok-does.ensures.begins;
+      begins = begins_over c.args.out.now c.loop-k.out c.does.new.out c.loop-k.invariant.begins c.in_ok-does.ensures.begins;
     }
 
 pub chosen-requires-clause-for_sizes : goal.chosen-requires-clause-for_sizes

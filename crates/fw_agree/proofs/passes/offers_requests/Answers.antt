@@ -5,7 +5,7 @@ use Rattle.fw_rules.specs.Agree as agree
 use Rattle.fw_kept.specs.Kept.{self_of, act_of}
 use Rattle.fw_owned.specs.Pieces.{request_of}
 use Rattle.fw_agree.specs.Steps.{at}
-use Rattle.fw_agree.proofs.Beginning.{begins_on}
+use Rattle.fw_clock.proofs.Sending.{begins_over}
 use Rattle.fw_agree.proofs.Going.{offered_last, acted_requests}
 use Rattle.fw_agree.proofs.passes.offers_requests.Goals as goal
 
@@ -39,5 +39,5 @@ loop-place-preserved c =
           ∙ c.loop-place.invariant.step;
       same = ap (λ t. t.0.heard.requests) c.in_ok-does.ensures.step ∙ acted_requests me s act ∙ same;
       sizes = λ p was. c.does.ensures.sizes p (c.loop-place.invariant.sizes p was);
-      begins = begins_on c.args.out.now c.loop-place.out c.does.new.out c.loop-place.invariant.begins c.in_ok-does.ensures.begins;
+      begins = begins_over c.args.out.now c.loop-place.out c.does.new.out c.loop-place.invariant.begins c.in_ok-does.ensures.begins;
     }

@@ -1,7 +1,7 @@
 -- The hand is the agreement node's, and the node is new.
 use Rattle.std.proofs.Common.{◌≡◌, sym, ap, ◌∙◌, subst}
 use Rattle.fw_base.specs.declared.seat.Seat.TheVariants as seats
-use Rattle.fw_rules.specs.Agree.{agree_role}
+use Rattle.fw_rules.specs.Views.{agree_role}
 use Rattle.fw_trace.specs.Role.{sends}
 use Rattle.fw_deal.specs.Deals.{hand_of}
 use Rattle.fw_kept.specs.Kept.{self_of}

@@ -42,3 +42,7 @@ returns-clause-rules c = λ d seat h same.
 pub returns-clause-hands : goal.returns-clause-hands
 returns-clause-hands c = λ k below.
     had_at (λ n. n.params) (λ n. Client n.client) (λ n. n.hand) asking.rule_of asking.StandsFor (λ n. n.stopped) c.args.deal.now Client c.args.deal.now.origin.params.clients c.in_ok-clients.clients k c.in_ok-clients.ensures below
+
+pub returns-clause-agreements : goal.returns-clause-agreements
+returns-clause-agreements c = λ k below.
+    had_at (λ n. n.params) (λ n. Agree n.own) (λ n. n.hand) agreeing.rule_of agreeing.StandsFor (λ n. n.stopped) c.args.deal.now Agree (agreements c.args.deal.now.origin.params) c.in_ok-agree.agree k c.in_ok-agree.ensures below

@@ -16,7 +16,7 @@ use Rattle.fw_seen.proofs.whole.summary.Goals as goal
 pub returns : goal.returns
 returns g c = λ d t parts.
     let accepted : c.accepted.inside.inside.items ≡ c.in_ok-accepted.accepted = c.accepted.view_is in
-    summary_is d t c.in_ok-agreed_lines.field-0 c.accepted.inside.inside.items c.in_ok-cross_lines.field-0 c.in_ok-as_u32.field-0 c.args.counts.rest c.in_ok-as_u32-2.field-0 c.in_ok-as_u32-3.field-0
+    summary_is d t c.in_ok-agreed_lines.field-0 c.accepted.inside.inside.items c.in_ok-cross_lines.field-0 c.in_ok-as_u32.field-0 c.args.counts.rest c.args.counts.view c.in_ok-as_u32-2.field-0 c.in_ok-as_u32-3.field-0
     (c.in_ok-agreed_lines.ensures
     ∙ ap (λ (hand : PlainHand). agreed_lines hand 1 (agreed_list (agreed_in c.args.directory.now) c.args.pool.now)) parts.keys
     ∙ ap₂ (λ (e : PlainDirectory) (pool : List (Sent (List ℕ))). agreed_lines (d.hand (Exec 0)) 1 (agreed_list (agreed_in e) pool)) parts.directory parts.pool)
@@ -25,5 +25,6 @@ returns g c = λ d t parts.
     ∙ ap₂ (λ (p : Params) (pool : List (Sent (List ℕ))). cross_lines p pool (numbers_from 0 (width p))) (c.params.ensures.same ∙ ap (λ (e : PlainDirectory). e.params) parts.directory) parts.pool)
     (c.in_ok-as_u32.ensures ∙ c.saturating_sub-waiting.ensures ∙ ap₂ (λ (a b : ℕ). a - b) parts.submissions (c.len.ensures ∙ ap length (sym accepted)))
     parts.rest
+    parts.view
     (c.in_ok-as_u32-2.ensures ∙ parts.events)
     (c.in_ok-as_u32-3.ensures ∙ ap length parts.pool)

@@ -3,7 +3,7 @@ use Rattle.std.proofs.Common.{◌≡◌, ◌-◌, ◌<◌, true, false, ap, sym,
 use Rattle.std.specs.Prelude.{is_some}
 use Rattle.fw_base.specs.declared.params.Params.{Params}
 use Rattle.fw_rules.specs.Choices.{first_some}
-use Rattle.fw_views.specs.Views as views
+use Rattle.fw_rules.specs.Views as views
 use Rattle.fw_owned.proofs.Found.{mapped_some}
 use Rattle.fw_kept.specs.Kept.{node_of}
 use Rattle.fw_turn.specs.Turns.{turn_of}

@@ -1,7 +1,7 @@
 -- The first of the views that are left is the first of all.
 use Rattle.std.proofs.Common.{◌≡◌, ◌-◌}
 use Rattle.fw_rules.specs.Choices.{first_some}
-use Rattle.fw_views.specs.Views as views
+use Rattle.fw_rules.specs.Views as views
 use Rattle.fw_kept.specs.Kept.{node_of}
 use Rattle.fw_turn.proofs.choosing.adopts.Given as goal
 

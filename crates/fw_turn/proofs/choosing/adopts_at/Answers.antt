@@ -1,7 +1,7 @@
 -- The first new view of the view, if there is one.
 use Rattle.std.proofs.Common.{Some, None, nat_eq, map, ap, sym, ◌∙◌}
 use Rattle.std.specs.List.{find}
-use Rattle.fw_views.specs.Views as views
+use Rattle.fw_rules.specs.Views as views
 use Rattle.fw_owned.specs.declared.owned.OwnedNewView.{OwnedNewView}
 use Rattle.fw_owned.specs.Pieces.{change_of}
 use Rattle.fw_turn.proofs.Turning.{adopted_first}

@@ -3,7 +3,7 @@ use Rattle.std.proofs.Common.{[], refl, ap, sym, ◌∙◌}
 use Rattle.std.specs.Option.{option_map}
 use Rattle.fw_base.specs.declared.seat.Seat.TheVariants.{Agree}
 use Rattle.fw_hand.specs.Hands.{PlainHand}
-use Rattle.fw_views.specs.Views as views
+use Rattle.fw_rules.specs.Views as views
 use Rattle.fw_kept.specs.Kept.{self_of, node_of}
 use Rattle.fw_turn.proofs.Turning.{joined_below}
 use Rattle.fw_turn.proofs.choosing.joins.Goals as goal

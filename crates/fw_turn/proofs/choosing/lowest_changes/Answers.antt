@@ -5,7 +5,7 @@ use Rattle.std.specs.Option.{option_map, option_copied}
 use Rattle.fw_pbft.proofs.Lowest.{more_found, none_found, room}
 use Rattle.fw_hand.specs.Hands.{PlainHand}
 use Rattle.fw_rules.specs.Agree.{Self}
-use Rattle.fw_views.specs.Views as views
+use Rattle.fw_rules.specs.Views as views
 use Rattle.fw_owned.specs.declared.owned.OwnedChange.{OwnedChange}
 use Rattle.fw_owned.specs.Pieces.{change_of}
 use Rattle.fw_kept.specs.Kept.{self_of, node_of}

@@ -2,7 +2,7 @@
 use Rattle.std.proofs.Common.{◌≡◌, ◌≤◌, ◌-◌, ◌++◌, length, map, filter_map}
 use Rattle.fw_list.specs.Lists.{numbers_from}
 use Rattle.fw_hand.specs.Hands.{PlainHand}
-use Rattle.fw_views.specs.Views as views
+use Rattle.fw_rules.specs.Views as views
 use Rattle.fw_owned.specs.Pieces.{change_of}
 use Rattle.fw_kept.specs.Kept.{self_of, node_of}
 use Rattle.fw_turn.proofs.choosing.lowest_changes.Given as goal

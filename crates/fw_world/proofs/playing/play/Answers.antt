@@ -37,7 +37,7 @@ returns-in-Ok-clause-played g c = λ keys key.
     let nodes = nodes_of c.in_ok-grid.grid in
     let same : c.run.new.self.seen.directory ≡ d = c.in-Ok.ensures.directory ∙ ap (λ w. w.seen.directory) c.in_ok-world.ensures in
     are_played (λ n. n.hand) (λ n. n.hand) (λ n. n.hand) (λ n. n.hand) c.args.deal plan d nodes c.in_ok-world.world c.run.new.self.seen keys c.requires.deal c.into_directory.ensures c.in_ok-world.ensures
-    c.in_ok-grid.ensures.hands key c.in-Ok.ensures.going c.in-Ok.ensures.directory c.in-Ok.ensures.hands
+    c.in_ok-grid.ensures.agreements c.in_ok-grid.ensures.hands key c.in-Ok.ensures.going c.in-Ok.ensures.directory c.in-Ok.ensures.hands
 
 pub returns-clause-err : goal.returns-clause-err
 returns-clause-err g c =

@@ -1,6 +1,7 @@
 -- The rule stays the node's, and each frame that it sends can be sent.
-use Rattle.std.proofs.Common.{ap, subst, IsTrue}
+use Rattle.std.proofs.Common.{ap, subst, sym, ◌∙◌, IsTrue}
 use Rattle.fw_base.specs.Sizes.{accepted}
+use Rattle.fw_kept.specs.Kept.{IsFor}
 use Rattle.fw_agree.specs.Standing.{rule_of}
 use Rattle.fw_agree.proofs.Sends.{all_sendable}
 use Rattle.fw_agree.proofs.agree.AgreeNodeNode.take.Goals as goal
@@ -21,7 +22,7 @@ returns-clause-sends g c =
     all_sendable c.args.self.now (subst (λ p. IsTrue (accepted p)) (ap (λ n. n.params) c.self.view_is) c.self.invariant.0.sizes)
 
 pub invariant_of-self : goal.invariant_of-self
-invariant_of-self g c = (c.self.invariant.0, c.takes-taken.ensures.sizes c.self.inside.params c.self.invariant.1)
+invariant_of-self g c = (c.self.invariant.0, subst (λ p. IsFor p c.takes-taken.new.keeps) (c.requires.sizes ∙ sym (ap (λ n. n.params) c.self.view_is)) c.takes-taken.ensures.sizes)
 
 pub invariant_of-self-2 : goal.invariant_of-self-2
-invariant_of-self-2 g c = (c.self.invariant.0, c.takes-taken.ensures.sizes c.self.inside.params c.self.invariant.1)
+invariant_of-self-2 g c = (c.self.invariant.0, subst (λ p. IsFor p c.takes-taken.new.keeps) (c.requires.sizes ∙ sym (ap (λ n. n.params) c.self.view_is)) c.takes-taken.ensures.sizes)

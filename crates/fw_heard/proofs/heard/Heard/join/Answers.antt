@@ -2,7 +2,7 @@
 use Rattle.std.proofs.Common.{map, ap, sym, ◌∙◌}
 use Rattle.std.specs.Option.{option_map}
 use Rattle.fw_view.specs.Counted.{join}
-use Rattle.fw_views.specs.Views.{Start}
+use Rattle.fw_rules.specs.Views.{Start}
 use Rattle.fw_owned.specs.Pieces.{change_of}
 use Rattle.fw_heard.specs.Changed.{HeardChanges}
 use Rattle.fw_heard.proofs.Counting.{same_join}
