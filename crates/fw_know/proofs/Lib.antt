@@ -1,0 +1,5 @@
+-- The files of lemmas.
+pub mod Answers
+pub mod Books
+pub mod Marking
+pub mod Knowing
