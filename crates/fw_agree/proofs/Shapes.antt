@@ -1,21 +1,15 @@
--- The shape of what is heard: a vote names a digest, a view change is to a view of the deployment, and what is seen of a frame can be
--- written again.
-use Rattle.std.proofs.Common.{◌≡◌, ℕ, ◌≤◌, ◌<◌, ◌&&◌, nat_le, nat_lt, nat_eq, List, [], ◌∷◌, length, map, All, Option, Some, ap, subst, arith, IsTrue}
-use Rattle.std.specs.Prelude.{⊤}
-use Rattle.std.proofs.lemmas.Bool.{and_parts, eqb-true, ltb-true}
+-- What is heard is seen of a frame of the deployment, and can be written again.
+use Rattle.std.proofs.Common.{◌≡◌, ℕ, ◌≤◌, List, [], ◌∷◌, length, map, All, Some, subst, arith, IsTrue}
 use Rattle.std.proofs.lemmas.List.{length-map}
 use Rattle.std.proofs.lemmas.List.Elements.{All-nil, All-cons, All-head, All-tail}
 use Rattle.fw_base.specs.declared.params.Params.{Params}
 use Rattle.fw_base.specs.declared.seat.Seat.{Seat}
-use Rattle.fw_base.specs.Sizes.{accepted, agreements, quorum}
+use Rattle.fw_base.specs.Sizes.{accepted, quorum}
 use Rattle.fw_directory.specs.Directories.{PlainDirectory}
 use Rattle.fw_frame.specs.declared.frame.Proof.{Proof}
 use Rattle.fw_frame.specs.declared.frame.Change.{Change}
-use Rattle.fw_frame.specs.Frames.{PlainFrame}
-use Rattle.fw_frame.specs.Frames as plains
 use Rattle.fw_frame.specs.Plain.{plain_proof, plain_change, plain_signer}
-use Rattle.fw_frame.specs.Ranges.{frame_fits, change_fits, changes_fit, proofs_fit, view_fits, number_fits, has_length, values_fit}
-use Rattle.fw_frame.specs.View.{Frame, Votes, Changes, Begins, viewed, viewed_proof, viewed_change, viewed_signer}
+use Rattle.fw_frame.specs.View.{Frame, Changes, Begins, viewed_proof, viewed_change, viewed_signer}
 use Rattle.fw_frame.specs.Writing.{IsCountable, IsWritableProof, IsWritableChange}
 use Rattle.fw_lengths.proofs.Admitted.{admitted-shows}
 use Rattle.fw_lengths.proofs.Pieces.{IsShortProof, IsShortChange, IsShort, numbers-few}
@@ -31,34 +25,6 @@ admitted_seen d own from bytes v e =
 
 seen_short : (p : Params) (v : Frame) → IsSeen p v → IsShort p v
 seen_short p v seen = subst (IsShort p) seen.1 (viewed-short p seen.0 seen.2)
-
--- ---- what a vote names, and the view of a view change
-
--- a vote names the digest of an entry, and a view change a view of the deployment
-abbrev HasRange : Params → Frame → Type 0
-HasRange p (Votes v) = length v.digest ≡ 32
-HasRange p (Changes c) = c.view < p.views
-HasRange p _ = ⊤
-
-fits_range : (p : Params) (f : PlainFrame) → IsTrue (frame_fits p f) → HasRange p (viewed f)
-fits_range p (plains.Vote phase view number agree digest sig) fit =
-    let front = and_parts (nat_le phase 1 && view_fits p view && number_fits p number && nat_lt agree (agreements p) && has_length 32 digest) (values_fit sig) fit in
-    eqb-true (length digest) 32 (and_parts (nat_le phase 1 && view_fits p view && number_fits p number && nat_lt agree (agreements p)) (has_length 32 digest) front.0).1
-fits_range p (plains.Change c) fit =
-    let most = and_parts (nat_lt 0 c.view && view_fits p c.view && nat_lt c.agree (agreements p) && proofs_fit p c.view c.proofs) (values_fit c.sig) fit in
-    let more = and_parts (nat_lt 0 c.view && view_fits p c.view && nat_lt c.agree (agreements p)) (proofs_fit p c.view c.proofs) most.0 in
-    let front = and_parts (nat_lt 0 c.view && view_fits p c.view) (nat_lt c.agree (agreements p)) more.0 in
-    ltb-true c.view p.views (and_parts (nat_lt 0 c.view) (view_fits p c.view) front.0).1
-fits_range p (plains.Request r) fit = tt
-fits_range p (plains.Propose view number entry sig) fit = tt
-fits_range p (plains.NewView view changes sig) fit = tt
-fits_range p (plains.Agreed view number entry signers) fit = tt
-fits_range p (plains.Share number exec client stamp body shares) fit = tt
-fits_range p (plains.Reply number client stamp body secrets) fit = tt
-fits_range p (plains.Want number) fit = tt
-
-pub seen_range : (p : Params) (v : Frame) → IsSeen p v → HasRange p v
-seen_range p v seen = subst (HasRange p) seen.1 (fits_range p seen.0 seen.2)
 
 -- ---- what can be written again
 

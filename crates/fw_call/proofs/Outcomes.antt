@@ -8,17 +8,16 @@ use Rattle.fw_trace.specs.Run as runs
 use Rattle.fw_directory.specs.Directories.{PlainDirectory}
 use Rattle.fw_deal.specs.Deals.{IsDirectoryOf}
 use Rattle.fw_rules.specs.declared.limits.Which.{Which}
-use Rattle.fw_rules.specs.World.{world}
+use Rattle.fw_fair.specs.Hostile.{silent}
 use Rattle.fw_law_directory.proofs.OneDirectory.{one_directory}
-use Rattle.fw_law_honest.specs.Laws.{deployed}
 use Rattle.fw_grid.specs.Schedule.{schedule}
-use Rattle.fw_world.specs.Plans.{deal_of, FailsAt, IsWithin}
+use Rattle.fw_world.specs.Plans.{deal_of, deployment_of, FailsAt, IsWithin}
 
 abbrev Outcome : Type 0
 Outcome = Result (Trace (List ℕ) Op) (ℕ × Which)
 
 abbrev outcome : Plan → PlainDirectory → Outcome
-outcome p d = runs.run (world (deployed (deal_of p) d)) (schedule p.steps)
+outcome p d = runs.run (silent (deployment_of p d)) (schedule p.steps)
 
 same_outcome : (p : Plan) (d e : PlainDirectory) (one other : Outcome) → IsDirectoryOf (deal_of p).origin d → IsDirectoryOf (deal_of p).origin e → outcome p d ≡ one → outcome p e ≡ other → one ≡ other
 same_outcome p d e one other first second run again =

@@ -1,5 +1,5 @@
 -- What the program answers.
-use Rattle.std.specs.Prelude.{◌≡◌, ◌≤◌, ◌<◌, ℕ, Bool, true, false, ◌⊎◌, ◌++◌, List, length, Option, Some, None, IfSome, IsTrue}
+use Rattle.std.specs.Prelude.{◌≡◌, ◌≤◌, ◌<◌, ℕ, Bool, true, false, ◌⊎◌, ◌++◌, List, [], length, Option, Some, None, IfSome, IsTrue}
 use Rattle.fw_base.specs.Faults.{Rose}
 use Rattle.fw_base.specs.declared.params.Params.{Params}
 use Rattle.fw_base.specs.declared.seat.Seat.{Seat}
@@ -54,10 +54,10 @@ pub record IsDocumentOf (P : Plan → Type 0) (bytes : List ℕ) : Type 0 where
   pub only : (other : Plan) → IsDocument bytes other → other ≡ plan
   pub holds : P plan
 
--- the bytes are the document of a plan, and where one agreement node decides this holds of its deal, of the deal's directory and of
--- the trace of its run
+-- the bytes are the document of a plan, and where one agreement node decides and nobody is faulty this holds of its deal, of the deal's
+-- directory and of the trace of its run
 abbrev pub HoldsOfRun : (PlainDeal → PlainDirectory → Trace (List ℕ) Op → Type 0) → List ℕ → Type 0
-HoldsOfRun P bytes = (p : Plan) × (d : PlainDirectory) × (t : Trace (List ℕ) Op) × IsDocument bytes p × IsRunOf p d t × (p.params.f ≡ 0 → P (deal_of p) d t)
+HoldsOfRun P bytes = (p : Plan) × (d : PlainDirectory) × (t : Trace (List ℕ) Op) × IsDocument bytes p × IsRunOf p d t × (p.params.f ≡ 0 → p.faulty ≡ [] → P (deal_of p) d t)
 
 -- each reply that a client accepted is the reference service's, at its number of the agreed list
 abbrev pub AcceptsOnlyAnswers : List ℕ → Type 0

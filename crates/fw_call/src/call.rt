@@ -53,7 +53,7 @@ pub fn firewall<S: Source, K: Sink, L: Link>(
     // the run of that plan under the rules of the four roles.
     ensures replayed { result ≡ Status.Ok → IsReplay (map string_bytes words.now) → (text : List ℕ) × Reports (S.left source.old) text × Appends (K.written sink.old) text (K.written sink.new) }
 
-    // What holds of that run, where one agreement node decides.
+    // What holds of that run, where one agreement node decides and nobody is faulty.
     ensures accepted { result ≡ Status.Ok → IsReplay (map string_bytes words.now) → IfSome (S.left source.old) AcceptsOnlyAnswers }
     ensures certificates { result ≡ Status.Ok → IsReplay (map string_bytes words.now) → IfSome (S.left source.old) LetsDownOnlyCertificates }
 

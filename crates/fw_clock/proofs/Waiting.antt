@@ -1,6 +1,6 @@
 -- What the rule owes, from what each look-up found.
 use Rattle.std.proofs.Common.{length, drop, get_or, drop-cons, add-one, ◌∷◌, ◌≡◌, ℕ, ◌+◌, ◌<◌, ◌≤◌, ◌++◌, ◌∙◌, arith, List, [], Bool, true, false, ◌&&◌, not, Option, Some, None, refl, sym, ap, nat_eq, nat_le, nat_lt, map, inl, inr}
-use Rattle.std.specs.Prelude.{is_some, if◌then◌else◌}
+use Rattle.std.specs.Prelude.{is_some}
 use Rattle.std.specs.Borrow.{Bor}
 use Rattle.std.specs.List.{list_any}
 use Rattle.std.specs.Option.{option_map, option_copied}
@@ -14,7 +14,6 @@ use Rattle.fw_frame.specs.View.{Frame, Entry, Change, Agrees, Votes, Proposes, C
 use Rattle.fw_rules.specs.Signing.{entry_digest}
 use Rattle.fw_means.specs.Means.{written}
 use Rattle.std.proofs.lemmas.List.{append-nil, drop_all}
-use Rattle.fw_means.specs.Means.{when}
 use Rattle.fw_rules.specs.Choices.{first_some}
 use Rattle.fw_rules.specs.Agree as rules
 use Rattle.fw_rules.specs.Views as views

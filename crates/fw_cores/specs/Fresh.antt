@@ -1,5 +1,5 @@
 -- New nodes of a deal: each has its seat's hand, and has taken nothing.
-use Rattle.std.specs.Prelude.{◌≡◌, ℕ, Bool, false, List, [], length, Some, slice_get}
+use Rattle.std.specs.Prelude.{◌≡◌, ℕ, Bool, false, List, [], length, get_or, Some, slice_get}
 use Rattle.fw_base.specs.declared.params.Params.{Params}
 use Rattle.fw_base.specs.declared.seat.Seat.{Seat}
 use Rattle.fw_directory.specs.Directories.{PlainDirectory}
@@ -18,7 +18,7 @@ pub record IsFresh {N : Type 0} (params : N → Params) (own : N → Seat) (hand
   pub running : stopped node ≡ false
   pub empty : (d : PlainDirectory) → stands node d []
 
--- so many of them, each at the place of its seat
-pub record AreFresh {N : Type 0} (params : N → Params) (own : N → Seat) (hand : N → PlainHand) (rule : Sends N) (stands : Stands N) (stopped : N → Bool) (deal : PlainDeal) (seat_at : ℕ → Seat) (count : ℕ) (nodes : List N) : Type 0 where
-  pub many : length nodes ≡ count
-  pub each : (k : ℕ) (node : N) → slice_get nodes k ≡ Some node → IsFresh params own hand rule stands stopped deal (seat_at k) node
+-- one of them for each of these numbers of a kind, in order
+pub record AreFresh {N : Type 0} (params : N → Params) (own : N → Seat) (hand : N → PlainHand) (rule : Sends N) (stands : Stands N) (stopped : N → Bool) (deal : PlainDeal) (seat_at : ℕ → Seat) (numbers : List ℕ) (nodes : List N) : Type 0 where
+  pub many : length nodes ≡ length numbers
+  pub each : (k : ℕ) (node : N) → slice_get nodes k ≡ Some node → IsFresh params own hand rule stands stopped deal (seat_at (get_or numbers k 0)) node

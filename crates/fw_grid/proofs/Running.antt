@@ -8,7 +8,7 @@ use Rattle.fw_trace.specs.Trace.{Event, Delivers, next_frame}
 use Rattle.fw_trace.specs.Run.{Flush, happens, flushes, does, run_from}
 use Rattle.fw_directory.specs.Directories.{PlainDirectory}
 use Rattle.fw_node.specs.Histories.{History, Out}
-use Rattle.fw_rules.specs.World.{world_by}
+use Rattle.fw_fair.specs.Hostile.{silent_among}
 use Rattle.fw_rules.specs.declared.limits.Which.{Which}
 use Rattle.fw_grid.specs.declared.fault.RunFault.{RunFault}
 use Rattle.fw_grid.specs.declared.fault.RunFault.TheVariants as faults
@@ -18,9 +18,10 @@ use Rattle.fw_grid.specs.declared.machine.Halt.TheVariants as halts
 use Rattle.fw_grid.specs.Schedule.{schedule, step_of_run}
 use Rattle.fw_grid.specs.Fronts.{Seats, Move, Sight, event_end, flush_end, step_end, run_end, IsFront, IsFault, IfLimit}
 
--- equal directories and rules make one world
-pub same_world : (d e : PlainDirectory) (r s : Seat → History → Out) → d ≡ e → r ≡ s → ◌≡◌ {A = Seats} (world_by d.params r) (world_by e.params s)
-same_world d e r s one other = ap₂ (λ (x : PlainDirectory) (y : Seat → History → Out). world_by x.params y) one other
+-- equal directories, faulty seats and rules make one world
+pub same_world : (d e : PlainDirectory) (f g : List Seat) (r s : Seat → History → Out) → d ≡ e → f ≡ g → r ≡ s → ◌≡◌ {A = Seats} (silent_among d.params f r) (silent_among e.params g s)
+same_world d e f g r s one two three =
+    ap₂ (λ (x : PlainDirectory) (y : List Seat). silent_among x.params y r) one two ∙ ap (λ (y : Seat → History → Out). silent_among e.params g y) three
 
 -- ---- flushes
 

@@ -1,21 +1,18 @@
--- One node of a list is another, places of filters, and histories by place and by seat.
+-- One node of a list is another, and histories by place and by seat.
 use Rattle.std.proofs.Common.{◌≡◌, ℕ, zero, suc, ◌+◌, ◌*◌, ◌/◌, ◌%◌, ◌<◌, Bool, true, false, cond, nat_eq, List, [], ◌∷◌, ◌++◌, length, set, Option, Some, slice_get, refl, sym, ap, ap₂, ◌∙◌, arith, inl, inr, subst, IsTrue}
 use Rattle.std.specs.Prelude.{Result, Ok, Err, OnOk}
-use Rattle.std.proofs.lemmas.Bool.{eqb-true, and_parts}
 use Rattle.std.proofs.lemmas.Bool.Decides.{eqb_tells}
 use Rattle.std.proofs.lemmas.List.{length-set}
-use Rattle.std.proofs.lemmas.Nat.{div-mul-add, mod-mul-add, mul-add-lt, div-add-mod'}
 use Rattle.std.proofs.lemmas.Option.{slice_get_within, same_Some}
 use Rattle.fw_base.specs.declared.params.Params.{Params}
 use Rattle.fw_base.specs.declared.seat.Seat.{Seat}
-use Rattle.fw_base.specs.declared.seat.Seat.TheVariants.{Filter}
-use Rattle.fw_base.specs.Sizes.{width}
-use Rattle.fw_base.specs.Seats.{fits, seat_eq}
-use Rattle.fw_trace.proofs.Words.{seat_eq-refl}
+use Rattle.fw_step.specs.Fitting.{is_correct}
 use Rattle.fw_directory.specs.Directories.{PlainDirectory}
 use Rattle.fw_hand.specs.Hands.{PlainHand}
 use Rattle.fw_node.specs.Histories.{Taken, History, Out}
-use Rattle.fw_grid.specs.Nodes.{filter_at, filter_place, AreSeated, AreStanding, Stands, Sends, sends_of, hand_in, with_place, with_input}
+use Rattle.fw_fair.specs.Correct.{kind_of, count_below, correct_at, place_of}
+use Rattle.fw_fair.proofs.Seats.{many_of, at_place, only_place}
+use Rattle.fw_grid.specs.Nodes.{AreSeated, AreStanding, Stands, Sends, sends_of, hand_in, with_place, with_input}
 
 -- what holds with Ok
 pub on_ok : {T E : Type 0} (r : Result T E) (P Q : Type 0) → (P → Q) → OnOk r P → OnOk r Q
@@ -94,59 +91,38 @@ standing_set {N} stands stopped d hs nodes k old new input there running took al
           (before.0, subst (λ (h : History). stands node d h) (sym (ap (λ (b : Bool). cond b (input ∷ hs j) (hs j)) other.0)) before.1)
     ]
 
--- ---- filters
-
-pub place_within : (p : Params) (row column : ℕ) → row < width p → column < width p → row * width p + column < width p * width p
-place_within p row column below within = mul-add-lt row (width p) column (width p) below within
-
--- the filter at a filter's place
-pub filter_there : (p : Params) (row column : ℕ) → column < width p → filter_at p (filter_place p row column) ≡ Filter row column
-filter_there p row column within = ap₂ Filter (div-mul-add row (width p) column within) (mod-mul-add row (width p) column within)
-
--- the place of a filter is its own, and no other's
-pub place_only : (p : Params) (row column j : ℕ) → column < width p → nat_eq (filter_place p row column) j ≡ seat_eq (Filter row column) (filter_at p j)
-place_only p row column j within =
-    elim (eqb_tells (filter_place p row column) j) [
-      | inl same ↦
-          (let here : filter_at p j ≡ Filter row column = ap (filter_at p) (sym same.1) ∙ filter_there p row column within in
-          same.0 ∙ sym (ap (seat_eq (Filter row column)) here ∙ seat_eq-refl (Filter row column)))
-      | inr other ↦ other.0 ∙ sym (no (seat_eq (Filter row column) (filter_at p j)) refl other.1)
-    ]
-  where
-    no : (b : Bool) → seat_eq (Filter row column) (filter_at p j) ≡ b → (filter_place p row column ≡ j → ⊥) → b ≡ false
-    no false test other = refl
-    no true test other =
-        let parts = and_parts (nat_eq row (j / width p)) (nat_eq column (j % width p)) test in
-        absurd (other (ap₂ (λ r s. r * width p + s) (eqb-true row (j / width p) parts.0) (eqb-true column (j % width p) parts.1) ∙ div-add-mod' j (width p)))
-
 -- ---- histories by place, and by seat
 
-pub standing_same : {N : Type 0} (stands : Stands N) (stopped : N → Bool) (d : PlainDirectory) (one other : ℕ → History) (nodes : List N) → ((k : ℕ) → one k ≡ other k)
+pub standing_same : {N : Type 0} (stands : Stands N) (stopped : N → Bool) (d : PlainDirectory) (one other : ℕ → History) (nodes : List N) → ((k : ℕ) → k < length nodes → one k ≡ other k)
     → AreStanding stands stopped d one nodes → AreStanding stands stopped d other nodes
 standing_same stands stopped d one other nodes same all k node found =
-    let before = all k node found in (before.0, subst (λ h. stands node d h) (same k) before.1)
+    let before = all k node found in (before.0, subst (λ h. stands node d h) (same k (slice_get_within nodes k node found)) before.1)
 
--- a filter took an input
-pub filter_histories : (p : Params) (hs : Seat → History) (row column place : ℕ) (input : Taken) → column < width p → place ≡ filter_place p row column
-    → (j : ℕ) → with_place (λ k. hs (filter_at p k)) place input j ≡ with_input hs (Filter row column) input (filter_at p j)
-filter_histories p hs row column place input within is j =
-    ap (λ (b : Bool). cond b (input ∷ hs (filter_at p j)) (hs (filter_at p j))) (ap (λ k. nat_eq k j) is ∙ place_only p row column j within)
+-- a seat took an input
+pub histories_same : (p : Params) (faulty : List Seat) (seat : Seat) (hs : Seat → History) (place : ℕ) (input : Taken) → IsTrue (is_correct p faulty seat) → place ≡ place_of p faulty seat
+    → (j : ℕ) → j < count_below faulty (kind_of p seat) (many_of p seat)
+    → with_place (λ k. hs (correct_at faulty (kind_of p seat) (many_of p seat) k)) place input j ≡ with_input hs seat input (correct_at faulty (kind_of p seat) (many_of p seat) j)
+histories_same p faulty seat hs place input correct is j inside =
+    let at = correct_at faulty (kind_of p seat) (many_of p seat) j in
+    ap (λ (b : Bool). cond b (input ∷ hs at) (hs at)) (ap (λ k. nat_eq k j) is ∙ only_place p faulty seat j correct inside)
 
 -- the node of a place sends what its rule says
 abbrev pub IsSent : {N : Type 0} → Stands N → (N → Bool) → Sends N → PlainDirectory → List N → ℕ → Taken → Out → Out → Type 0
 IsSent stands stopped rule d nodes k input old new = (hs : ℕ → History) → AreStanding stands stopped d hs nodes → new ≡ old ++ sends_of rule (slice_get nodes k) d (input ∷ hs k)
 
--- what is sent for a seat of the deployment
-pub sent_by : (fit : Bool) (old new out : Out) → IsTrue fit → new ≡ old ++ out → new ≡ old ++ cond fit out []
-sent_by fit old new out true_fit sent = sent ∙ sym (ap (λ b. old ++ cond b out []) true_fit)
+-- what is sent for a correct seat
+pub sent_by : {N : Type 0} (rule : Sends N) (nodes : List N) (d : PlainDirectory) (faulty : List Seat) (hs : Seat → History) (input : Taken) (seat : Seat) (place : ℕ) (old new : Out) → IsTrue (is_correct d.params faulty seat)
+    → place ≡ place_of d.params faulty seat → new ≡ old ++ sends_of rule (slice_get nodes place) d (input ∷ hs (correct_at faulty (kind_of d.params seat) (many_of d.params seat) place))
+    → new ≡ old ++ cond (is_correct d.params faulty seat) (sends_of rule (slice_get nodes (place_of d.params faulty seat)) d (input ∷ hs seat)) []
+sent_by rule nodes d faulty hs input seat place old new correct is sent =
+    sent ∙ ap (λ k. old ++ sends_of rule (slice_get nodes k) d (input ∷ hs (correct_at faulty (kind_of d.params seat) (many_of d.params seat) k))) is
+    ∙ ap (λ s. old ++ sends_of rule (slice_get nodes (place_of d.params faulty seat)) d (input ∷ hs s)) (at_place d.params faulty seat correct).1
+    ∙ sym (ap (λ b. old ++ cond b (sends_of rule (slice_get nodes (place_of d.params faulty seat)) d (input ∷ hs seat)) []) correct)
 
-pub sent_by_filter : {F : Type 0} (rule : Sends F) (nodes : List F) (d : PlainDirectory) (hs : Seat → History) (input : Taken) (row column place : ℕ) (old new : Out) → IsTrue (fits d.params (Filter row column)) → column < width d.params → place ≡ filter_place d.params row column
-    → new ≡ old ++ sends_of rule (slice_get nodes place) d (input ∷ hs (filter_at d.params place))
-    → new ≡ old ++ cond (fits d.params (Filter row column)) (sends_of rule (slice_get nodes (filter_place d.params row column)) d (input ∷ hs (Filter row column))) []
-sent_by_filter rule nodes d hs input row column place old new fit within is sent =
-    sent_by (fits d.params (Filter row column)) old new _ fit
-    (sent ∙ ap (λ k. old ++ sends_of rule (slice_get nodes k) d (input ∷ hs (filter_at d.params k))) is
-    ∙ ap (λ s. old ++ sends_of rule (slice_get nodes (filter_place d.params row column)) d (input ∷ hs s)) (filter_there d.params row column within))
+-- a correct seat's place is inside
+pub place_inside : {N : Type 0} (params : N → Params) (own : N → Seat) (p : Params) (faulty : List Seat) (seat : Seat) (place : ℕ) (nodes : List N) → IsTrue (is_correct p faulty seat) → place ≡ place_of p faulty seat
+    → AreSeated params own p (correct_at faulty (kind_of p seat) (many_of p seat)) (count_below faulty (kind_of p seat) (many_of p seat)) nodes → place < length nodes
+place_inside params own p faulty seat place nodes correct is seated = let at = (at_place p faulty seat correct).0 in let many = seated.many in omega arith
 
 pub cond_true : {A : Type 0} (b : Bool) (x y : A) → IsTrue b → cond b x y ≡ x
 cond_true b x y h = ap (λ t. cond t x y) h

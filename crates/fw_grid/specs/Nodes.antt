@@ -1,13 +1,16 @@
--- The nodes of a deployment, of any four kinds: where they stand, what they send by seat, and the histories that they stand for.
-use Rattle.std.specs.Prelude.{◌≡◌, ℕ, ◌+◌, ◌*◌, ◌/◌, ◌%◌, Bool, false, cond, nat_eq, List, [], ◌∷◌, length, Option, None, Some, slice_get}
+-- The nodes of a deployment's correct seats, of any four kinds: where they stand, what they send by seat, and the histories that they
+-- stand for.
+use Rattle.std.specs.Prelude.{◌≡◌, ℕ, ◌*◌, Bool, false, cond, nat_eq, List, [], ◌∷◌, length, Option, None, Some, slice_get}
 use Rattle.fw_base.specs.declared.params.Params.{Params}
 use Rattle.fw_base.specs.declared.seat.Seat.{Seat}
 use Rattle.fw_base.specs.declared.seat.Seat.TheVariants.{Agree, Exec, Filter, Client}
 use Rattle.fw_base.specs.Sizes.{agreements, executors, width}
-use Rattle.fw_base.specs.Seats.{fits, seat_eq}
+use Rattle.fw_base.specs.Seats.{seat_eq}
+use Rattle.fw_step.specs.Fitting.{is_correct}
 use Rattle.fw_directory.specs.Directories.{PlainDirectory}
 use Rattle.fw_hand.specs.Hands.{PlainHand}
 use Rattle.fw_node.specs.Histories.{Taken, History, Out}
+use Rattle.fw_fair.specs.Correct.{filter_at, count_below, correct_at, place_of}
 
 -- the nodes of each kind, ascending by seat
 pub record Nodes (A E F C : Type 0) : Type 0 where
@@ -18,25 +21,18 @@ pub record Nodes (A E F C : Type 0) : Type 0 where
 
 -- ---- which seats they have
 
--- the filter at a place of its kind: row by row
-abbrev pub filter_at : Params → ℕ → Seat
-filter_at p k = Filter (k / width p) (k % width p)
-
-abbrev pub filter_place : Params → ℕ → ℕ → ℕ
-filter_place p row column = row * width p + column
-
 -- so many nodes of the sizes, each at the place of its seat
 pub record AreSeated {N : Type 0} (params : N → Params) (own : N → Seat) (p : Params) (seat_at : ℕ → Seat) (count : ℕ) (nodes : List N) : Type 0 where
   pub many : length nodes ≡ count
   pub sizes : (k : ℕ) (node : N) → slice_get nodes k ≡ Some node → params node ≡ p
   pub seats : (k : ℕ) (node : N) → slice_get nodes k ≡ Some node → own node ≡ seat_at k
 
--- there is one node for each seat of the deployment
-pub record AllSeated {A E F C : Type 0} (sizes_a : A → Params) (own_a : A → Seat) (sizes_e : E → Params) (own_e : E → Seat) (sizes_f : F → Params) (own_f : F → Seat) (sizes_c : C → Params) (own_c : C → Seat) (p : Params) (nodes : Nodes A E F C) : Type 0 where
-  pub agree : AreSeated sizes_a own_a p Agree (agreements p) nodes.agree
-  pub exec : AreSeated sizes_e own_e p Exec (executors p) nodes.exec
-  pub filters : AreSeated sizes_f own_f p (filter_at p) (width p * width p) nodes.filters
-  pub clients : AreSeated sizes_c own_c p Client p.clients nodes.clients
+-- there is one node for each correct seat of the deployment
+pub record AllSeated {A E F C : Type 0} (sizes_a : A → Params) (own_a : A → Seat) (sizes_e : E → Params) (own_e : E → Seat) (sizes_f : F → Params) (own_f : F → Seat) (sizes_c : C → Params) (own_c : C → Seat) (p : Params) (faulty : List Seat) (nodes : Nodes A E F C) : Type 0 where
+  pub agree : AreSeated sizes_a own_a p (correct_at faulty Agree (agreements p)) (count_below faulty Agree (agreements p)) nodes.agree
+  pub exec : AreSeated sizes_e own_e p (correct_at faulty Exec (executors p)) (count_below faulty Exec (executors p)) nodes.exec
+  pub filters : AreSeated sizes_f own_f p (correct_at faulty (filter_at p) (width p * width p)) (count_below faulty (filter_at p) (width p * width p)) nodes.filters
+  pub clients : AreSeated sizes_c own_c p (correct_at faulty Client p.clients) (count_below faulty Client p.clients) nodes.clients
 
 -- ---- what they send
 
@@ -48,16 +44,16 @@ abbrev pub sends_of : {N : Type 0} → Sends N → Option N → PlainDirectory �
 sends_of rule None d h = []
 sends_of rule (Some node) d h = rule node d h
 
--- what the node of a seat sends
-abbrev pub node_sends : {A E F C : Type 0} → Sends A → Sends E → Sends F → Sends C → Nodes A E F C → PlainDirectory → Seat → History → Out
-node_sends a e f c nodes d (Agree i) h = sends_of a (slice_get nodes.agree i) d h
-node_sends a e f c nodes d (Exec j) h = sends_of e (slice_get nodes.exec j) d h
-node_sends a e f c nodes d (Filter row column) h = sends_of f (slice_get nodes.filters (filter_place d.params row column)) d h
-node_sends a e f c nodes d (Client k) h = sends_of c (slice_get nodes.clients k) d h
+-- what the node of a correct seat sends
+abbrev pub node_sends : {A E F C : Type 0} → Sends A → Sends E → Sends F → Sends C → Nodes A E F C → PlainDirectory → List Seat → Seat → History → Out
+node_sends a e f c nodes d faulty (Agree i) h = sends_of a (slice_get nodes.agree (place_of d.params faulty (Agree i))) d h
+node_sends a e f c nodes d faulty (Exec j) h = sends_of e (slice_get nodes.exec (place_of d.params faulty (Exec j))) d h
+node_sends a e f c nodes d faulty (Filter row column) h = sends_of f (slice_get nodes.filters (place_of d.params faulty (Filter row column))) d h
+node_sends a e f c nodes d faulty (Client k) h = sends_of c (slice_get nodes.clients (place_of d.params faulty (Client k))) d h
 
--- the same, for the seats of the deployment alone
-abbrev pub rule_of : {A E F C : Type 0} → Sends A → Sends E → Sends F → Sends C → Nodes A E F C → PlainDirectory → Seat → History → Out
-rule_of a e f c nodes d seat h = cond (fits d.params seat) (node_sends a e f c nodes d seat h) []
+-- the same, for correct seats alone
+abbrev pub rule_of : {A E F C : Type 0} → Sends A → Sends E → Sends F → Sends C → Nodes A E F C → PlainDirectory → List Seat → Seat → History → Out
+rule_of a e f c nodes d faulty seat h = cond (is_correct d.params faulty seat) (node_sends a e f c nodes d faulty seat h) []
 
 -- ---- their hands
 
@@ -66,12 +62,12 @@ abbrev pub hand_in : {N : Type 0} → (N → PlainHand) → Option N → Option 
 hand_in hand None = None
 hand_in hand (Some node) = Some (hand node)
 
--- the hand of the node of a seat
-abbrev pub node_hand : {A E F C : Type 0} → (A → PlainHand) → (E → PlainHand) → (F → PlainHand) → (C → PlainHand) → Nodes A E F C → Params → Seat → Option PlainHand
-node_hand a e f c nodes p (Agree i) = hand_in a (slice_get nodes.agree i)
-node_hand a e f c nodes p (Exec j) = hand_in e (slice_get nodes.exec j)
-node_hand a e f c nodes p (Filter row column) = hand_in f (slice_get nodes.filters (filter_place p row column))
-node_hand a e f c nodes p (Client k) = hand_in c (slice_get nodes.clients k)
+-- the hand of the node of a correct seat
+abbrev pub node_hand : {A E F C : Type 0} → (A → PlainHand) → (E → PlainHand) → (F → PlainHand) → (C → PlainHand) → Nodes A E F C → Params → List Seat → Seat → Option PlainHand
+node_hand a e f c nodes p faulty (Agree i) = hand_in a (slice_get nodes.agree (place_of p faulty (Agree i)))
+node_hand a e f c nodes p faulty (Exec j) = hand_in e (slice_get nodes.exec (place_of p faulty (Exec j)))
+node_hand a e f c nodes p faulty (Filter row column) = hand_in f (slice_get nodes.filters (place_of p faulty (Filter row column)))
+node_hand a e f c nodes p faulty (Client k) = hand_in c (slice_get nodes.clients (place_of p faulty (Client k)))
 
 -- ---- the histories that they stand for
 
@@ -85,11 +81,11 @@ AreStanding {N} stands stopped d histories nodes =
     (k : ℕ) (node : N) → slice_get nodes k ≡ Some node → (stopped node ≡ false) × stands node d (histories k)
 
 -- each runs, and stands for the history of its seat
-pub record AllStanding {A E F C : Type 0} (stands_a : Stands A) (stopped_a : A → Bool) (stands_e : Stands E) (stopped_e : E → Bool) (stands_f : Stands F) (stopped_f : F → Bool) (stands_c : Stands C) (stopped_c : C → Bool) (d : PlainDirectory) (histories : Seat → History) (nodes : Nodes A E F C) : Type 0 where
-  pub agree : AreStanding stands_a stopped_a d (λ k. histories (Agree k)) nodes.agree
-  pub exec : AreStanding stands_e stopped_e d (λ k. histories (Exec k)) nodes.exec
-  pub filters : AreStanding stands_f stopped_f d (λ k. histories (filter_at d.params k)) nodes.filters
-  pub clients : AreStanding stands_c stopped_c d (λ k. histories (Client k)) nodes.clients
+pub record AllStanding {A E F C : Type 0} (stands_a : Stands A) (stopped_a : A → Bool) (stands_e : Stands E) (stopped_e : E → Bool) (stands_f : Stands F) (stopped_f : F → Bool) (stands_c : Stands C) (stopped_c : C → Bool) (d : PlainDirectory) (faulty : List Seat) (histories : Seat → History) (nodes : Nodes A E F C) : Type 0 where
+  pub agree : AreStanding stands_a stopped_a d (λ k. histories (correct_at faulty Agree (agreements d.params) k)) nodes.agree
+  pub exec : AreStanding stands_e stopped_e d (λ k. histories (correct_at faulty Exec (executors d.params) k)) nodes.exec
+  pub filters : AreStanding stands_f stopped_f d (λ k. histories (correct_at faulty (filter_at d.params) (width d.params * width d.params) k)) nodes.filters
+  pub clients : AreStanding stands_c stopped_c d (λ k. histories (correct_at faulty Client d.params.clients k)) nodes.clients
 
 -- the histories after a place or a seat took an input
 abbrev pub with_place : (ℕ → History) → ℕ → Taken → ℕ → History

@@ -1,4 +1,4 @@
-//! The nodes of a deployment, of any four kinds: what they send each other, and the run of a schedule.
+//! The nodes of a deployment's correct seats, of any four kinds: what they send each other, and the run of a schedule.
 #![tactic(auto)]
 
 mod cause;
@@ -7,6 +7,7 @@ mod fault;
 mod grid;
 mod machine;
 mod nodes;
+mod places;
 mod world;
 
 pub use fault::RunFault;

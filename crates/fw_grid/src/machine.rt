@@ -10,11 +10,11 @@ use crate::entering::take_in;
 use fw_base::{Params, Seat};
 use fw_digest::Steps;
 use fw_directory::Directory;
-use fw_list::{Bytes, Memory};
+use fw_list::{Bytes, Items, Memory};
 use fw_node::Node;
 use fw_pool::Pool;
 use fw_rules::Which;
-use fw_step::Step;
+use fw_step::{Step, is_correct};
 use fw_trace::Sent;
 use std::alloc::Global;
 use std::marker::Model;
@@ -39,18 +39,18 @@ impl From<Memory> for Halt {
     }
 }
 
-/// Whether there is a frame at a place, and it goes to a seat of the deployment.
-fn can_deliver(params: &Params, frames: &[Sent<Bytes>], place: usize) -> bool
+/// Whether there is a frame at a place, and it goes to a correct seat.
+fn can_deliver(params: &Params, faulty: &[Seat], frames: &[Sent<Bytes>], place: usize) -> bool
     requires { IsTrue (accepted params.now) }
-    ensures { result ≡ can_deliver params.now (slice_get frames.now place) }
+    ensures { result ≡ can_deliver params.now faulty.now (slice_get frames.now place) }
 {
     match frames.get(place) {
-        Some(sent) => sent.to.fits(params),
+        Some(sent) => is_correct(params, faulty, sent.to),
         None => false,
     }
 }
 
-/// A node for each seat, and what they sent and took.
+/// A node for each correct seat, and what they sent and took.
 #[derive(Drop)]
 pub struct Machine<A: Node, E: Node, F: Node, C: Node> {
     alloc: Global,
@@ -66,16 +66,15 @@ impl<A: Node, E: Node, F: Node, C: Node> Model for Machine<A, E, F, C> {
 
     ghost Value = { Seen A E F C };
 
-    ghost view = { λ m. record { directory = m.directory; nodes = nodes_of m.grid; trace = m.pool.trace; failed = m.failed } };
+    ghost view = { λ m. record { directory = m.directory; faulty = m.pool.faulty; nodes = nodes_of m.grid; trace = m.pool.trace; failed = m.failed } };
 
-    ghost invariant = { λ m. Holds A.params A.own A.stands_for A.is_stopped E.params E.own E.stands_for E.is_stopped F.params F.own F.stands_for F.is_stopped C.params C.own C.stands_for C.is_stopped m.directory (nodes_of m.grid) m.pool.params m.pool.trace.log m.failed };
+    ghost invariant = { λ m. Holds A.params A.own A.stands_for A.is_stopped E.params E.own E.stands_for E.is_stopped F.params F.own F.stands_for F.is_stopped C.params C.own C.stands_for C.is_stopped m.directory m.pool.faulty (nodes_of m.grid) m.pool.params m.pool.trace.log m.failed };
 }
 
 impl<A: Node, E: Node, F: Node, C: Node> Machine<A, E, F, C> {
     ghost use Rattle.std.specs.Prelude.{◌≡◌, ◌≤◌, ◌∷◌, [], ℕ, List, Ok, Err, OnOk, OnErr, IfErr, IsTrue, true, false};
     ghost use Rattle.fw_base.specs.declared.seat.Seat.{Seat};
-    ghost use Rattle.fw_base.specs.Seats.{fits};
-    ghost use Rattle.fw_step.specs.Fitting.{step_fits};
+    ghost use Rattle.fw_step.specs.Fitting.{is_correct, is_honest, step_fits};
     ghost use Rattle.fw_trace.specs.Trace.{Delivers, nothing, next_frame};
     ghost use Rattle.fw_trace.specs.Run.{happens, flushes, does};
     ghost use Rattle.fw_grid.specs.Nodes.{AllSeated, AllStanding};
@@ -86,17 +85,22 @@ impl<A: Node, E: Node, F: Node, C: Node> Machine<A, E, F, C> {
     ghost use Rattle.fw_grid.specs.Fronts.{Move, IfLimit, flush_end, step_end, IsFront};
 
     /// New nodes, which have taken nothing.
-    pub(crate) fn new(alloc: Global, directory: Directory, grid: Grid<A, E, F, C>) -> Self
-        requires seated { AllSeated A.params A.own E.params E.own F.params F.own C.params C.own directory.params (nodes_of grid) }
-        requires fresh { AllStanding A.stands_for A.is_stopped E.stands_for E.is_stopped F.stands_for F.is_stopped C.stands_for C.is_stopped directory (λ seat. []) (nodes_of grid) }
-        ensures { result ≡ record { directory = directory; nodes = nodes_of grid; trace = nothing; failed = false } }
+    pub(crate) fn new(
+        alloc: Global,
+        directory: Directory,
+        faulty: Items<Seat>,
+        grid: Grid<A, E, F, C>,
+    ) -> Self
+        requires seated { AllSeated A.params A.own E.params E.own F.params F.own C.params C.own directory.params faulty (nodes_of grid) }
+        requires fresh { AllStanding A.stands_for A.is_stopped E.stands_for E.is_stopped F.stands_for F.is_stopped C.stands_for C.is_stopped directory faulty (λ seat. []) (nodes_of grid) }
+        ensures { result ≡ record { directory = directory; faulty = faulty; nodes = nodes_of grid; trace = nothing; failed = false } }
     {
         let params = *directory.params();
         Machine {
             alloc,
             directory,
             grid,
-            pool: Pool::new(alloc, params),
+            pool: Pool::new(alloc, params, faulty),
             failed: false,
         }
     }
@@ -111,6 +115,7 @@ impl<A: Node, E: Node, F: Node, C: Node> Machine<A, E, F, C> {
     pub(crate) fn pool(&self) -> &Pool
         ensures trace { result.now.trace ≡ self.now.trace }
         ensures params { result.now.params ≡ self.now.directory.params }
+        ensures faulty { result.now.faulty ≡ self.now.faulty }
     {
         &self.pool
     }
@@ -119,8 +124,8 @@ impl<A: Node, E: Node, F: Node, C: Node> Machine<A, E, F, C> {
     pub(crate) fn grid(&self) -> &Grid<A, E, F, C>
         requires { self.now.failed ≡ false }
         ensures nodes { nodes_of result.now ≡ self.now.nodes }
-        ensures seated { AllSeated A.params A.own E.params E.own F.params F.own C.params C.own self.now.directory.params (nodes_of result.now) }
-        ensures standing { AllStanding A.stands_for A.is_stopped E.stands_for E.is_stopped F.stands_for F.is_stopped C.stands_for C.is_stopped self.now.directory (histories self.now.trace.log) (nodes_of result.now) }
+        ensures seated { AllSeated A.params A.own E.params E.own F.params F.own C.params C.own self.now.directory.params self.now.faulty (nodes_of result.now) }
+        ensures standing { AllStanding A.stands_for A.is_stopped E.stands_for E.is_stopped F.stands_for F.is_stopped C.stands_for C.is_stopped self.now.directory self.now.faulty (histories self.now.trace.log) (nodes_of result.now) }
     {
         &self.grid
     }
@@ -135,8 +140,9 @@ impl<A: Node, E: Node, F: Node, C: Node> Machine<A, E, F, C> {
     fn take<L: Ledger>(&mut self, cause: Cause<'_>, steps: &mut Steps<L>) -> Result<(), Halt>
         requires going { self.old.failed ≡ false }
         requires come { CanCome self.old.trace.pool cause }
-        requires seat { IsTrue (fits self.old.directory.params (logged_by self.old.trace.pool cause).seat) }
+        requires seat { IsTrue (is_correct self.old.directory.params self.old.faulty (logged_by self.old.trace.pool cause).seat) }
         ensures directory { self.new.directory ≡ self.old.directory }
+        ensures faulty { self.new.faulty ≡ self.old.faulty }
         ensures hands { hands_in A.hand E.hand F.hand C.hand self.new ≡ hands_in A.hand E.hand F.hand C.hand self.old }
         ensures rule { rule_in A.rule E.rule F.rule C.rule self.new ≡ rule_in A.rule E.rule F.rule C.rule self.old }
         ensures going { OnOk result (self.new.failed ≡ false) }
@@ -167,6 +173,7 @@ impl<A: Node, E: Node, F: Node, C: Node> Machine<A, E, F, C> {
     fn deliver<L: Ledger>(&mut self, place: usize, steps: &mut Steps<L>) -> Result<(), Halt>
         requires going { self.old.failed ≡ false }
         ensures directory { self.new.directory ≡ self.old.directory }
+        ensures faulty { self.new.faulty ≡ self.old.faulty }
         ensures hands { hands_in A.hand E.hand F.hand C.hand self.new ≡ hands_in A.hand E.hand F.hand C.hand self.old }
         ensures rule { rule_in A.rule E.rule F.rule C.rule self.new ≡ rule_in A.rule E.rule F.rule C.rule self.old }
         ensures going { OnOk result (self.new.failed ≡ false) }
@@ -175,7 +182,12 @@ impl<A: Node, E: Node, F: Node, C: Node> Machine<A, E, F, C> {
         ensures limit { IfErr result (λ halt. IfLimit halt (λ which. happens (world_of A.rule E.rule F.rule C.rule self.old) self.old.trace (Delivers place) ≡ Err which)) }
         ensures err { OnErr result (self.new.trace ≡ self.old.trace) }
     {
-        if !can_deliver(self.directory.params(), self.pool.frames(), place) {
+        if !can_deliver(
+            self.directory.params(),
+            self.pool.faulty(),
+            self.pool.frames(),
+            place,
+        ) {
             return Ok(());
         }
         self.take(Cause::Frame(place), steps)
@@ -193,6 +205,7 @@ impl<A: Node, E: Node, F: Node, C: Node> Machine<A, E, F, C> {
     fn flush<L: Ledger>(&mut self, most: u32, steps: &mut Steps<L>) -> Result<(), Halt>
         requires going { self.old.failed ≡ false }
         ensures directory { self.new.directory ≡ self.old.directory }
+        ensures faulty { self.new.faulty ≡ self.old.faulty }
         ensures hands { hands_in A.hand E.hand F.hand C.hand self.new ≡ hands_in A.hand E.hand F.hand C.hand self.old }
         ensures rule { rule_in A.rule E.rule F.rule C.rule self.new ≡ rule_in A.rule E.rule F.rule C.rule self.old }
         ensures going { OnOk result (self.new.failed ≡ false) }
@@ -215,8 +228,10 @@ impl<A: Node, E: Node, F: Node, C: Node> Machine<A, E, F, C> {
     /// One step of a schedule.
     pub(crate) fn step<L: Ledger>(&mut self, step: &Step, steps: &mut Steps<L>) -> Result<(), Halt>
         requires going { self.old.failed ≡ false }
-        requires fit { IsTrue (step_fits self.old.directory.params [] step.now) }
+        requires fit { IsTrue (step_fits self.old.directory.params self.old.faulty step.now) }
+        requires honest { IsTrue (is_honest step.now) }
         ensures directory { self.new.directory ≡ self.old.directory }
+        ensures faulty { self.new.faulty ≡ self.old.faulty }
         ensures hands { hands_in A.hand E.hand F.hand C.hand self.new ≡ hands_in A.hand E.hand F.hand C.hand self.old }
         ensures rule { rule_in A.rule E.rule F.rule C.rule self.new ≡ rule_in A.rule E.rule F.rule C.rule self.old }
         ensures going { OnOk result (self.new.failed ≡ false) }

@@ -4,7 +4,7 @@ use Rattle.std.proofs.lemmas.List.{length-append}
 use Rattle.std.proofs.lemmas.List.Elements.{All-nil, All-cons, All-head, All-tail}
 use Rattle.fw_base.specs.declared.params.Params.{Params}
 use Rattle.fw_base.specs.declared.seat.Seat.{Seat}
-use Rattle.fw_base.specs.Seats.{fits}
+use Rattle.fw_step.specs.Fitting.{is_correct}
 use Rattle.fw_trace.specs.declared.Sent.{Sent}
 use Rattle.fw_trace.specs.Trace.{was_delivered, is_frame, from_seat}
 use Rattle.fw_node.specs.declared.outbox.Sent as sending
@@ -59,9 +59,9 @@ logged_place frames (notes.Tick seat) = refl
 logged_place frames (notes.Submission seat op) = refl
 
 -- a mark more that stands makes nothing due
-due_less : (p : Params) (o : Option (Sent (List ℕ))) (a b : Bool) → due_of p b o ≡ false → due_of p (a || b) o ≡ false
-due_less p None a b none = refl
-due_less p (Some s) a b none = by (fits p s.to) a b none
+due_less : (correct : Seat → Bool) (o : Option (Sent (List ℕ))) (a b : Bool) → due_of correct b o ≡ false → due_of correct (a || b) o ≡ false
+due_less correct None a b none = refl
+due_less correct (Some s) a b none = by (correct s.to) a b none
   where
     by : (fit a b : Bool) → (fit && not b) ≡ false → (fit && not (a || b)) ≡ false
     by false a b none = refl
@@ -69,10 +69,10 @@ due_less p (Some s) a b none = by (fits p s.to) a b none
     by true false b none = none
 
 -- what a pool keeps after a note more, and more frames
-pub holds_more : (p : Params) (frames more all : Frames) (marks new : List Bool) (log logs : List Note) (note : Note) (due bytes sum : ℕ) → Holds p frames marks log due bytes → IsWithin (length frames) note
+pub holds_more : (p : Params) (faulty : List Seat) (frames more all : Frames) (marks new : List Bool) (log logs : List Note) (note : Note) (due bytes sum : ℕ) → Holds p faulty frames marks log due bytes → IsWithin (length frames) note
     → all ≡ frames ++ more → logs ≡ note ∷ log → length new ≡ length all → ((k : ℕ) → is_marked new k ≡ (is_frame k (place_of note) || is_marked marks k))
-    → sum ≡ bytes_of (frames ++ more) → length (frames ++ more) ≤ MOST_FRAMES → sum ≤ MOST_BYTES → Holds p all new logs due sum
-holds_more p frames more all marks new log logs note due bytes sum holds within grown noted count marked total few small =
+    → sum ≡ bytes_of (frames ++ more) → length (frames ++ more) ≤ MOST_FRAMES → sum ≤ MOST_BYTES → Holds p faulty all new logs due sum
+holds_more p faulty frames more all marks new log logs note due bytes sum holds within grown noted count marked total few small =
     let le : length frames ≤ length all = (let l = length-append frames more in rw grown (omega arith)) in
     record {
       sizes = holds.sizes;
@@ -85,8 +85,8 @@ holds_more p frames more all marks new log logs note due bytes sum holds within 
           ∙ ap (λ (l : List Note). was_delivered (log_of all l) k) (sym noted);
       cursor = omega arith;
       passed = λ k before.
-          ap₂ (λ (m : Bool) (o : Option (Sent (List ℕ))). due_of p m o) (marked k) (ap (λ (f : Frames). slice_get f k) grown ∙ slice_get_grown frames more k (let c = holds.cursor in omega arith))
-          ∙ due_less p (slice_get frames k) (is_frame k (place_of note)) (is_marked marks k) (holds.passed k before);
+          ap₂ (λ (m : Bool) (o : Option (Sent (List ℕ))). due_of (is_correct p faulty) m o) (marked k) (ap (λ (f : Frames). slice_get f k) grown ∙ slice_get_grown frames more k (let c = holds.cursor in omega arith))
+          ∙ due_less (is_correct p faulty) (slice_get frames k) (is_frame k (place_of note)) (is_marked marks k) (holds.passed k before);
       sum = total ∙ ap bytes_of (sym grown);
       few = rw grown few;
       small = small;

@@ -5,7 +5,7 @@ use crate::due::{first_due, rests};
 use crate::frames::{extend, mark, room};
 use crate::note::Note;
 use fw_base::{Params, Seat};
-use fw_list::{Bytes, Memory, Newest};
+use fw_list::{Bytes, Items, Memory, Newest};
 use fw_node::Outbox;
 use fw_op::Op;
 use fw_rules::Which;
@@ -18,6 +18,7 @@ use std::marker::Model;
 pub struct Pool {
     alloc: Global,
     params: Params,
+    faulty: Items<Seat>,
     frames: Vec<Sent<Bytes>>,
     marks: Vec<bool>,
     log: Newest<Note>,
@@ -31,9 +32,9 @@ impl Model for Pool {
 
     ghost Value = { Pooled };
 
-    ghost view = { λ p. record { params = p.params; trace = record { pool = p.frames.items; log = log_of p.frames.items p.log } } };
+    ghost view = { λ p. record { params = p.params; faulty = p.faulty; trace = record { pool = p.frames.items; log = log_of p.frames.items p.log } } };
 
-    ghost invariant = { λ p. Holds p.params p.frames.items p.marks.items p.log p.due p.bytes };
+    ghost invariant = { λ p. Holds p.params p.faulty p.frames.items p.marks.items p.log p.due p.bytes };
 }
 
 impl Pool {
@@ -42,26 +43,34 @@ impl Pool {
     ghost use Rattle.fw_base.specs.declared.seat.Seat.{Seat};
     ghost use Rattle.fw_trace.specs.Trace.{nothing, next_frame, rests_from, IsAtRest};
     ghost use Rattle.fw_node.specs.Histories.{History, Out};
-    ghost use Rattle.fw_rules.specs.World.{rules_by};
+    ghost use Rattle.fw_fair.specs.Hostile.{rules_among};
     ghost use Rattle.fw_rules.specs.declared.limits.TheConstants.{MOST_FRAMES};
     ghost use Rattle.fw_pool.specs.Notes.{logged, delivery, ticked, submitted, IsWithin};
-    ghost use Rattle.fw_pool.specs.Pooled.{enters, over_of, HasRoom};
+    ghost use Rattle.fw_pool.specs.Pooled.{correct_in, enters, over_of, HasRoom};
     ghost use Rattle.fw_pool.specs.Counts.{submissions};
 
-    /// Nothing was sent or taken.
-    pub fn new(alloc: Global, params: Params) -> Self
+    /// Nothing was sent or taken, in a deployment with these faulty seats.
+    pub fn new(alloc: Global, params: Params, faulty: Items<Seat>) -> Self
         requires { IsTrue (accepted params) }
-        ensures { result ≡ record { params = params; trace = nothing } }
+        ensures { result ≡ record { params = params; faulty = faulty; trace = nothing } }
     {
         Pool {
             alloc,
             params,
+            faulty,
             frames: Vec::new(alloc),
             marks: Vec::new(alloc),
             log: Newest::new(alloc),
             due: 0,
             bytes: 0,
         }
+    }
+
+    /// The faulty seats of the deployment.
+    pub fn faulty(&self) -> &[Seat]
+        ensures { result.now ≡ self.now.faulty }
+    {
+        self.faulty.items()
     }
 
     /// All that was sent, in order.
@@ -79,19 +88,25 @@ impl Pool {
         self.log.len()
     }
 
-    /// How many submissions to clients of the deployment were taken.
+    /// How many submissions to correct clients were taken.
     pub fn submissions(&self) -> usize
-        ensures { result ≡ submissions self.now.params self.now.trace.log }
+        ensures { result ≡ submissions (correct_in self.now) self.now.trace.log }
     {
-        submissions(&self.params, &self.log)
+        submissions(&self.params, self.faulty.items(), &self.log)
     }
 
-    /// The place of the first frame to a seat of the deployment that was never delivered.
+    /// The place of the first frame to a correct seat that was never delivered.
     pub fn next_due(&mut self) -> Option<usize>
         ensures same { self.new ≡ self.old }
-        ensures next { (rule : Seat → History → Out) → result ≡ next_frame (rules_by self.old.params rule) self.old.trace.log 0 self.old.trace.pool }
+        ensures next { (rule : Seat → History → Out) → result ≡ next_frame (rules_among self.old.params self.old.faulty rule) self.old.trace.log 0 self.old.trace.pool }
     {
-        self.due = first_due(&self.params, &self.marks, &self.frames, self.due);
+        self.due = first_due(
+            &self.params,
+            self.faulty.items(),
+            &self.marks,
+            &self.frames,
+            self.due,
+        );
         if self.due < self.frames.len() {
             Some(self.due)
         } else {
@@ -99,12 +114,12 @@ impl Pool {
         }
     }
 
-    /// Whether each frame between seats of the deployment was delivered.
+    /// Whether each frame between correct seats was delivered.
     pub fn is_at_rest(&self) -> bool
-        ensures test { (rule : Seat → History → Out) → result ≡ rests_from (rules_by self.now.params rule) self.now.trace.log 0 self.now.trace.pool }
-        ensures rest { (rule : Seat → History → Out) → IsTrue result ↔ IsAtRest (rules_by self.now.params rule) self.now.trace }
+        ensures test { (rule : Seat → History → Out) → result ≡ rests_from (rules_among self.now.params self.now.faulty rule) self.now.trace.log 0 self.now.trace.pool }
+        ensures rest { (rule : Seat → History → Out) → IsTrue result ↔ IsAtRest (rules_among self.now.params self.now.faulty rule) self.now.trace }
     {
-        rests(&self.params, &self.marks, &self.frames)
+        rests(&self.params, self.faulty.items(), &self.marks, &self.frames)
     }
 
     /// Which limit the first of these frames would pass that passes one, whichever seat sends them.
@@ -120,6 +135,7 @@ impl Pool {
         requires from { from ≡ (logged self.old.trace.pool note).seat }
         requires room { HasRoom self.old.trace out.now }
         ensures params { self.new.params ≡ self.old.params }
+        ensures faulty { self.new.faulty ≡ self.old.faulty }
         ensures ok { OnOk result (self.new.trace ≡ enters self.old.trace (logged self.old.trace.pool note) out.now) }
         ensures err { OnErr result (self.new ≡ self.old) }
     {
@@ -147,6 +163,7 @@ impl Pool {
         requires place { place < length self.old.trace.pool }
         requires room { HasRoom self.old.trace out.now }
         ensures params { self.new.params ≡ self.old.params }
+        ensures faulty { self.new.faulty ≡ self.old.faulty }
         ensures ok { OnOk result (self.new.trace ≡ enters self.old.trace (delivery place (slice_get self.old.trace.pool place)) out.now) }
         ensures err { OnErr result (self.new ≡ self.old) }
     {
@@ -158,6 +175,7 @@ impl Pool {
     pub fn log_tick(&mut self, seat: Seat, out: &Outbox) -> Result<(), Memory>
         requires { HasRoom self.old.trace out.now }
         ensures params { self.new.params ≡ self.old.params }
+        ensures faulty { self.new.faulty ≡ self.old.faulty }
         ensures ok { OnOk result (self.new.trace ≡ enters self.old.trace (ticked seat) out.now) }
         ensures err { OnErr result (self.new ≡ self.old) }
     {
@@ -168,6 +186,7 @@ impl Pool {
     pub fn log_submit(&mut self, seat: Seat, op: &Op, out: &Outbox) -> Result<(), Memory>
         requires { HasRoom self.old.trace out.now }
         ensures params { self.new.params ≡ self.old.params }
+        ensures faulty { self.new.faulty ≡ self.old.faulty }
         ensures ok { OnOk result (self.new.trace ≡ enters self.old.trace (submitted seat op.now) out.now) }
         ensures err { OnErr result (self.new ≡ self.old) }
     {

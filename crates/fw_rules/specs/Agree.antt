@@ -1,6 +1,6 @@
--- The rule of an agreement node. What it keeps are lists of what it heard and of what it did; each pass chooses acts, and an act
--- changes what is kept and sends. Ticks, view changes and new views are ignored so far: the node stays in view 0.
-use Rattle.std.specs.Prelude.{ℕ, zero, ◌+◌, max, Bool, true, false, ◌&&◌, not, nat_eq, nat_lt, nat_le, List, [], ◌∷◌, ◌++◌, map, flat_map, length, take, filter, filter_map, Option, Some, None, is_some, option_and_then, if◌then◌else◌, bytes_eq}
+-- What an agreement node keeps, and how numbers are agreed in its view. What it keeps are lists of what it heard and of what it did; each
+-- pass chooses acts, and an act changes what is kept and sends. What turns the view, what a tick does, and the whole rule: Views.
+use Rattle.std.specs.Prelude.{ℕ, zero, ◌+◌, max, Bool, true, false, ◌&&◌, not, nat_eq, nat_lt, nat_le, List, [], ◌∷◌, ◌++◌, map, flat_map, length, take, filter, filter_map, Option, Some, None, is_some, if◌then◌else◌, bytes_eq}
 use Rattle.std.specs.List.{list_any}
 use Rattle.fw_list.specs.Lists.{numbers_from}
 use Rattle.fw_base.specs.declared.params.Params.{Params}
@@ -8,16 +8,13 @@ use Rattle.fw_base.specs.declared.seat.Seat.{Seat}
 use Rattle.fw_base.specs.declared.seat.Seat.TheVariants.{Agree, Filter, Client}
 use Rattle.fw_base.specs.Sizes.{agreements, quorum, primary, width}
 use Rattle.fw_text.specs.Texts.{Hash, Voted}
-use Rattle.fw_trace.specs.declared.Input.{Input}
-use Rattle.fw_trace.specs.declared.Input.TheVariants.{Heard, Tick, Submitted}
-use Rattle.fw_trace.specs.Role.{Role}
 use Rattle.fw_trace.specs.Lists.{first_at}
 use Rattle.fw_frame.specs.Parts.{vote_slot}
 use Rattle.fw_frame.specs.View.{Request, Entry, Given, Signer, Proof, Change, NewView, Propose, Vote, Agreed, Reply, Frame, Asks, Proposes, Votes, Agrees, Replies}
 use Rattle.fw_rules.specs.Signing.{entry_digest}
 use Rattle.fw_rules.specs.Means.{Means}
 use Rattle.fw_means.specs.Means.{when}
-use Rattle.fw_rules.specs.Choices.{first_some, admitted}
+use Rattle.fw_rules.specs.Choices.{first_some}
 
 -- ---- what it keeps
 
@@ -360,7 +357,7 @@ abbrev pub goes_up : {M : Type 0} → Self M → Node → ℕ → Option Act
 goes_up me x n =
     when (nat_eq n (x.up + 1) && nat_le n (replied me x + me.means.params.pipe)) (up_of (agreed_at x n))
 
--- ---- all passes, each over what the ones before it left
+-- ---- all passes in a view, each over what the ones before it left
 
 abbrev pub makes_offers : {M : Type 0} → Self M → Step M → Step M
 makes_offers me s = for_each me (offers_request me) s.0.heard.requests (for_each me (offers_choice me) (numbers me) s)
@@ -406,24 +403,13 @@ hears_proposal me x m = record x {
   seen = x.seen ++ m.entry ∷ [];
 }
 
--- what a frame from a seat does; none where it isn't named here
+-- what a frame from a seat does, but for view changes and new views; none where it isn't named here
 abbrev pub hears : {M : Type 0} → Self M → Node → Seat → Frame → Option (Step M)
 hears me x (Client c) (Asks r) = Some (hears_request me x (Client c) r (reply_to me x r.client r.stamp))
 hears me x (Agree i) (Proposes m) = Some (hears_proposal me x m, [])
 hears me x (Agree i) (Votes v) = Some (record x { votes = x.votes ++ v ∷ [] }, [])
 hears me x (Filter zero c) (Replies r) = Some (hears_reply me x r)
 hears me x _ _ = None
-
--- an input that is ignored changes nothing; after any other the passes are made
-abbrev pub passes_after : {M : Type 0} → Self M → Node → Option (Step M) → Step M
-passes_after me x None = (x, [])
-passes_after me x (Some heard) = passes me heard
-
-abbrev pub agree_next : {M O : Type 0} → Self M → Node → Input M O → Step M
-agree_next me x (Submitted op) = (x, [])
-agree_next me x Tick = (x, [])
-agree_next me x (Heard from m) =
-    passes_after me x (option_and_then (hears me x from) (admitted me.means (Agree me.own) from m))
 
 -- nothing heard and nothing done; null is seen
 abbrev pub new_node : Node
@@ -436,6 +422,3 @@ new_node = record {
   committed = [];
   up = 0;
 }
-
-abbrev pub agree_role : {M O : Type 0} → Self M → Role Node M O
-agree_role me = record { start = new_node; next = agree_next me }

@@ -1,5 +1,5 @@
--- The rule of an agreement node with view changes: what turns its view, and what its clock does. The passes that order numbers in a
--- view, and what it keeps, are those of the rule in view 0.
+-- The rule of an agreement node: what turns its view, what a tick does, and what it does on each input. What it keeps, and the passes that
+-- order numbers in a view: Agree.
 use Rattle.std.specs.Prelude.{ℕ, suc, zero, ◌+◌, Bool, true, false, ◌&&◌, ◌||◌, not, nat_eq, nat_lt, nat_le, List, [], ◌∷◌, ◌++◌, map, length, filter, filter_map, Option, Some, None, is_some, option_and_then, if◌then◌else◌}
 use Rattle.std.specs.List.{list_any}
 use Rattle.fw_base.specs.declared.seat.Seat.{Seat}

@@ -6,7 +6,7 @@ ghost use Rattle.fw_sched.specs.Replayed.{can_replay};
 use fw_base::{Params, Seats};
 use fw_list::Items;
 use fw_op::Starts;
-use fw_step::Step;
+use fw_step::{Step, is_honest};
 
 /// Steps in order.
 pub type StepList = Items<Step>;
@@ -22,10 +22,10 @@ pub struct Plan {
 }
 
 impl Plan {
-    /// Whether this is a plan that can be replayed: nobody is faulty in it.
+    /// Whether this is a plan that can be replayed so far: no lie is told in it.
     pub fn can_replay(&self) -> bool
         ensures { result ≡ can_replay self.now }
     {
-        self.faulty.len() == 0
+        self.steps.items().iter().all(|step| is_honest(step))
     }
 }

@@ -1,20 +1,14 @@
--- What the clients accepted, and what they wait for.
+-- What a client accepted and took, and sums.
 use Rattle.std.proofs.Common.{◌≡◌, ◌≤◌, ◌<◌, ◌+◌, ◌-◌, ◌*◌, ℕ, zero, suc, Bool, true, false, ◌&&◌, nat_eq, nat_lt, List, [], ◌∷◌, length, reverse, refl, sym, ap, ap₂, ◌∙◌, arith, subst, inl, inr, IsTrue, Option, Some, None, get_or}
 use Rattle.std.specs.List.{sum_by}
-use Rattle.std.specs.Prelude.{if◌then◌else◌, min, slice_get}
+use Rattle.std.specs.Prelude.{if◌then◌else◌}
 use Rattle.std.proofs.lemmas.List.Sums.{sum_by-append}
-use Rattle.std.proofs.lemmas.Option.{slice_get_read}
-use Rattle.std.proofs.lemmas.Bool.{cases_Bool, lt-ltb, false≢true}
-use Rattle.std.proofs.lemmas.List.{length-append, length-reverse}
-use Rattle.fw_list.specs.Lists.{numbers_from}
+use Rattle.std.proofs.lemmas.Bool.{cases_Bool, false≢true}
+use Rattle.std.proofs.lemmas.List.{length-append}
 use Rattle.fw_base.specs.declared.seat.Seat.TheVariants as seats
-use Rattle.fw_base.specs.declared.params.Params.{Params}
-use Rattle.fw_base.specs.Sizes.{accepted}
-use Rattle.fw_client.proofs.Openable.{stamps-few}
 use Rattle.fw_op.specs.declared.op.Op.{Op}
 use Rattle.fw_op.specs.declared.reply.Reply.{Reply}
 use Rattle.fw_trace.specs.declared.Told.{Told}
-use Rattle.fw_trace.specs.declared.Input.TheVariants.{Heard, Tick, Submitted}
 use Rattle.fw_trace.specs.Client as clients
 use Rattle.fw_trace.specs.Role.{kept}
 use Rattle.fw_trace.specs.Trace.{Trace, history}
@@ -23,9 +17,7 @@ use Rattle.fw_node.specs.Histories.{History}
 use Rattle.fw_rules.specs.World.{Deployed, accepted_by}
 use Rattle.fw_client.specs.Kept.{Speech}
 use Rattle.fw_client.specs.Standing.{Asker, StandsFor, speech, speech_of}
-use Rattle.fw_seen.specs.Summary.{submitted, waiting_at}
-use Rattle.fw_seen.specs.Clients.{IsClientOf, AreClientsOf, AreWithin}
-use Rattle.fw_seen.proofs.Counting.{numbers_more}
+use Rattle.fw_seen.specs.Clients.{IsClientOf}
 
 abbrev pub Kept : Type 0
 Kept = clients.Client Op Reply
@@ -72,63 +64,8 @@ pub given_took : (sp : Speech) (c : Kept) (op : Op) (room : Bool) → room ≡ t
 given_took sp c op true room = submit_took sp c op c.pending
 given_took sp c op false room = absurd (false≢true room)
 
--- while no more are submitted than it takes, it took them all
-took_all : (sp : Speech) (h : History) → submitted h ≤ sp.most → clients.taken (kept_by sp h) ≡ submitted h
-took_all sp [] few = refl
-took_all sp (Heard from m ∷ h) few = hear_took sp (kept_by sp h) (sp.told from m) ∙ took_all sp h few
-took_all sp (Tick ∷ h) few = took_all sp h few
-took_all sp (Submitted op ∷ h) few =
-    let before : clients.taken (kept_by sp h) ≡ submitted h = took_all sp h (omega arith) in
-    let room : nat_lt (clients.taken (kept_by sp h)) sp.most ≡ true = lt-ltb _ _ (omega (arith, before)) in
-    given_took sp (kept_by sp h) op (nat_lt (clients.taken (kept_by sp h)) sp.most) room ∙ ap (λ n. n + 1) before
-
--- what it waits for
-waiting_is : (d : Deployed) (t : Trace (List ℕ) Op) (c : ℕ) (node : Asker) (count : ℕ) → IsClientOf StandsFor d t c node → submitted (history (seats.Client c) t.log) ≤ d.directory.params.stamps
-    → ((e : PlainDirectory) (h : History) → StandsFor node e h → count ≡ clients.taken (kept_by (speech node e) h) - length (kept_by (speech node e) h).accepted) → count ≡ waiting_at d t c
-waiting_is d t c node count is few each =
-    let h = history (seats.Client c) t.log in
-    let sp = speech_of c (d.hand (seats.Client c)) d.directory in
-    let took = took_all sp h few in
-    same_client d t c node (λ k. count ≡ clients.taken k - length k.accepted) is each
-    ∙ ap₂ (λ (a b : ℕ). a - b) took (sym (length-reverse (kept_by sp h).accepted))
-
--- ---- all clients
+-- ---- sums
 
 -- the first of a sum
 pub sum_more : (f : ℕ → ℕ) (x : ℕ) (xs : List ℕ) → sum_by f (x ∷ xs) ≡ f x + sum_by f xs
 sum_more f x xs = let e = sum_by-append f (x ∷ []) xs in omega (arith, e)
-
-min-left : (a b : ℕ) → a ≤ b → min a b ≡ a
-min-left a b below = omega arith
-
--- they wait for few
-few_wait : (d : Deployed) (t : Trace (List ℕ) Op) (most first n : ℕ) → ((c : ℕ) → c < first + n → waiting_at d t c ≤ most) → sum_by (waiting_at d t) (numbers_from first n) ≤ n * most
-few_wait d t most first zero each = omega arith
-few_wait d t most first (suc n) each =
-    let one = each first (omega arith) in
-    let rest = few_wait d t most (first + 1) n (λ c below. each c (omega arith)) in
-    let split = sum_more (waiting_at d t) first (numbers_from (first + 1) n) in
-    omega (arith, one, rest, split)
-
-clients-few : (p : Params) → IsTrue (accepted p) → p.clients ≤ 8
-clients-few p sizes = grind arith
-
--- one client more
-pub waiting_more : (d : Deployed) (t : Trace (List ℕ) Op) (nodes : List Asker) (i : ℕ) (node : Asker) (old new count : ℕ) → IsTrue (accepted d.directory.params) → length nodes ≡ d.directory.params.clients
-    → AreClientsOf StandsFor nodes d t → AreWithin d t → i < length nodes → node ≡ get_or nodes i node
-    → ((e : PlainDirectory) (h : History) → StandsFor node e h → count ≡ clients.taken (kept_by (speech node e) h) - length (kept_by (speech node e) h).accepted)
-    → new ≡ min (old + count) 4294967295
-    → old + sum_by (waiting_at d t) (numbers_from i (length nodes - i)) ≡ sum_by (waiting_at d t) (numbers_from 0 (length nodes))
-    → new + sum_by (waiting_at d t) (numbers_from (i + 1) (length nodes - (i + 1))) ≡ sum_by (waiting_at d t) (numbers_from 0 (length nodes))
-waiting_more d t nodes i node old new count sizes all are within inside read each added before =
-    let found : slice_get nodes i ≡ Some node = slice_get_read nodes (length nodes) i node refl inside read in
-    let is : count ≡ waiting_at d t i = waiting_is d t i node count (are i node found) (within i (omega (arith, all))) each in
-    let sum : old + sum_by (waiting_at d t) (i ∷ numbers_from (i + 1) (length nodes - (i + 1))) ≡ sum_by (waiting_at d t) (numbers_from 0 (length nodes)) =
-    ap (λ ns. old + sum_by (waiting_at d t) ns) (sym (numbers_more i (length nodes) i inside)) ∙ before in
-    let split = sum_more (waiting_at d t) i (numbers_from (i + 1) (length nodes - (i + 1))) in
-    let stamps = stamps-few d.directory.params sizes in
-    let number = clients-few d.directory.params sizes in
-    let few = few_wait d t 16 0 (length nodes) (λ c below. let one = within c (omega (arith, all)) in omega (arith, one, stamps)) in
-    let room : old + count ≤ 4294967295 = omega (arith, is, sum, split, few, number, all) in
-    let whole : new ≡ old + count = added ∙ min-left (old + count) 4294967295 room in
-    omega (arith, is, sum, split, whole)

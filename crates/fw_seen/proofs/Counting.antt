@@ -1,6 +1,9 @@
 -- Numbers that are gone through one after another.
-use Rattle.std.proofs.Common.{◌≡◌, ℕ, suc, ◌+◌, ◌-◌, ◌<◌, List, [], ◌∷◌, ◌++◌, map, sym, ap, ◌∙◌, arith, append_assoc, append-nil, Option, Some, None}
-use Rattle.std.specs.Prelude.{count_by, ◌==◌}
+use Rattle.std.proofs.Common.{◌≡◌, ℕ, suc, ◌+◌, ◌-◌, ◌<◌, Bool, true, false, List, [], ◌∷◌, ◌++◌, map, length, get_or, drop, refl, sym, ap, ◌∙◌, arith, append_assoc, append-nil, Option, Some, None, ap₂, drop-cons, add-one}
+use Rattle.std.specs.Prelude.{count_by, ◌==◌, filter, if◌then◌else◌, Result, Ok, Err, OnOk}
+use Rattle.fw_base.specs.declared.seat.Seat.{Seat}
+use Rattle.fw_fair.specs.Correct.{is_whole}
+use Rattle.fw_fair.proofs.Ranks.{filter_yes, filter_no}
 use Rattle.fw_list.specs.Lists.{numbers_from}
 use Rattle.fw_base.specs.declared.params.Params.{Params}
 use Rattle.fw_op.specs.declared.op.Op.{Op}
@@ -16,6 +19,12 @@ use Rattle.fw_report.specs.declared.summary.AgreedLine.{AgreedLine}
 use Rattle.fw_report.specs.declared.summary.AcceptLine.{AcceptLine}
 use Rattle.fw_report.specs.declared.summary.CrossLine.{CrossLine}
 use Rattle.fw_seen.specs.Summary.{agreed_line, agreed_lines, accept_line_of, accept_lines, reply_numbers, line_of_copies, row_lines, cross_lines}
+use Rattle.fw_seen.specs.Crossing.{whole_row_lines}
+
+-- what follows with Ok
+pub on_ok : {T E : Type 0} (r : Result T E) (P Q : Type 0) → (P → Q) → OnOk r P → OnOk r Q
+on_ok (Ok x) P Q f p = f p
+on_ok (Err e) P Q f p = p
 
 -- the numbers that are left begin with the next one
 pub numbers_more : (first n i : ℕ) → i < n → numbers_from first (n - i) ≡ first ∷ numbers_from (first + 1) (n - (i + 1))
@@ -35,22 +44,33 @@ row_more row down old new all n i copies inside counted before pushed =
     (pushed ∙ ap (λ m. old ++ line_of_copies row (i + 1) m) counted)
 
 -- one row more
-pub rows_more : (p : Params) (pool : List (Sent (List ℕ))) (down : List ℕ) (old new all : List CrossLine) (n i : ℕ) → i < n → down ≡ reply_numbers p (crossing (in_row i) pool)
-    → old ++ cross_lines p pool (numbers_from i (n - i)) ≡ all → new ≡ old ++ row_lines i down (numbers_from 1 p.numbers)
-    → new ++ cross_lines p pool (numbers_from (i + 1) (n - (i + 1))) ≡ all
-rows_more p pool down old new all n i inside is before pushed =
-    part_more old new (row_lines i (reply_numbers p (crossing (in_row i) pool)) (numbers_from 1 p.numbers)) (cross_lines p pool (numbers_from (i + 1) (n - (i + 1)))) all
-    (ap (λ ns. old ++ cross_lines p pool ns) (sym (numbers_more i n i inside)) ∙ before)
-    (pushed ∙ ap (λ xs. old ++ row_lines i xs (numbers_from 1 p.numbers)) is)
+pub rows_more : (p : Params) (faulty : List Seat) (pool : List (Sent (List ℕ))) (old new all : List CrossLine) (n i : ℕ) → i < n
+    → old ++ cross_lines p pool (filter (is_whole p faulty) (numbers_from i (n - i))) ≡ all → new ≡ old ++ whole_row_lines p faulty pool i
+    → new ++ cross_lines p pool (filter (is_whole p faulty) (numbers_from (i + 1) (n - (i + 1)))) ≡ all
+rows_more p faulty pool old new all n i inside before pushed = part_more old new (whole_row_lines p faulty pool i) rest all (ap (λ ls. old ++ ls) (by (is_whole p faulty i) refl) ∙ before) pushed
+  where
+    rest : List CrossLine
+    rest = cross_lines p pool (filter (is_whole p faulty) (numbers_from (i + 1) (n - (i + 1))))
+
+    here : filter (is_whole p faulty) (numbers_from i (n - i)) ≡ filter (is_whole p faulty) (i ∷ numbers_from (i + 1) (n - (i + 1)))
+    here = ap (filter (is_whole p faulty)) (numbers_more i n i inside)
+
+    by : (b : Bool) → is_whole p faulty i ≡ b → whole_row_lines p faulty pool i ++ rest ≡ cross_lines p pool (filter (is_whole p faulty) (numbers_from i (n - i)))
+    by true whole =
+        ap (λ (t : Bool). (if t then row_lines i (reply_numbers p (crossing (in_row i) pool)) (numbers_from 1 p.numbers) else []) ++ rest) whole
+        ∙ sym (ap (cross_lines p pool) (here ∙ filter_yes (is_whole p faulty) i (numbers_from (i + 1) (n - (i + 1))) whole))
+    by false broken =
+        ap (λ (t : Bool). (if t then row_lines i (reply_numbers p (crossing (in_row i) pool)) (numbers_from 1 p.numbers) else []) ++ rest) broken
+        ∙ sym (ap (cross_lines p pool) (here ∙ filter_no (is_whole p faulty) i (numbers_from (i + 1) (n - (i + 1))) broken))
 
 -- one client more
-pub accept_more : (d : Deployed) (t : Trace (List ℕ) Op) (old new all : List AcceptLine) (told : List (Told Reply)) (n i : ℕ) → i < n → told ≡ accepted_by d i t
-    → old ++ accept_lines d t (numbers_from i (n - i)) ≡ all → new ≡ old ++ map (accept_line_of i) told
-    → new ++ accept_lines d t (numbers_from (i + 1) (n - (i + 1))) ≡ all
-accept_more d t old new all told n i inside heard before pushed =
-    part_more old new (map (accept_line_of i) (accepted_by d i t)) (accept_lines d t (numbers_from (i + 1) (n - (i + 1)))) all
-    (ap (λ ns. old ++ accept_lines d t ns) (sym (numbers_more i n i inside)) ∙ before)
-    (pushed ∙ ap (λ ts. old ++ map (accept_line_of i) ts) heard)
+pub accept_more : (d : Deployed) (t : Trace (List ℕ) Op) (old new all : List AcceptLine) (told : List (Told Reply)) (numbers : List ℕ) (i c : ℕ) → i < length numbers → c ≡ get_or numbers i 0 → told ≡ accepted_by d c t
+    → old ++ accept_lines d t (drop i numbers) ≡ all → new ≡ old ++ map (accept_line_of c) told
+    → new ++ accept_lines d t (drop (i + 1) numbers) ≡ all
+accept_more d t old new all told numbers i c inside is heard before pushed =
+    part_more old new (map (accept_line_of c) (accepted_by d c t)) (accept_lines d t (drop (i + 1) numbers)) all
+    (ap (λ ns. old ++ accept_lines d t ns) (sym (drop-cons numbers i 0 inside ∙ ap₂ (λ (x n : ℕ). x ∷ drop n numbers) (sym is) (sym (add-one i)))) ∙ before)
+    (pushed ∙ ap (λ ts. old ++ map (accept_line_of c) ts) heard)
 
 -- one number more of the agreed list
 pub agreed_more : (hand : PlainHand) (reads : ℕ → Option Entry) (old new all : List AgreedLine) (line : AgreedLine) (e : Entry) (n i : ℕ) → i < n → reads (i + 1) ≡ Some e

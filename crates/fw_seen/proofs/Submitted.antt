@@ -1,8 +1,8 @@
 -- What waits is what was submitted in all, less what was accepted in all.
 use Rattle.std.proofs.Common.{◌≡◌, ◌≤◌, ◌<◌, ◌+◌, ◌-◌, ℕ, zero, suc, Bool, true, false, ◌&&◌, cond, nat_eq, nat_lt, List, [], ◌∷◌, map, length, refl, sym, ap, ◌∙◌, arith, inl, inr, Option, Some, None}
 use Rattle.std.specs.List.{sum_by}
-use Rattle.std.specs.Prelude.{if◌then◌else◌}
-use Rattle.std.proofs.lemmas.Bool.{cases_Bool, eqb-true, eqb-false, ltb-true, lt-ltb, and_parts}
+use Rattle.std.specs.Prelude.{if◌then◌else◌, filter, not}
+use Rattle.std.proofs.lemmas.Bool.{cases_Bool, false≢true, eqb-true, eqb-false, ltb-true, lt-ltb, and_parts}
 use Rattle.std.proofs.lemmas.List.{length-append, length-reverse, length-map}
 use Rattle.fw_list.specs.Lists.{numbers_from}
 use Rattle.fw_base.specs.declared.params.Params.{Params}
@@ -18,10 +18,13 @@ use Rattle.fw_trace.specs.Client as clients
 use Rattle.fw_trace.specs.Trace.{Trace, history}
 use Rattle.fw_node.specs.Histories.{History, Taken}
 use Rattle.fw_rules.specs.World.{Deployed, accepted_by}
+use Rattle.fw_step.specs.Fitting.{is_faulty, is_correct}
+use Rattle.fw_fair.specs.Correct.{correct_below}
+use Rattle.fw_fair.proofs.Ranks.{filter_yes, filter_no}
 use Rattle.fw_client.specs.Kept.{Speech}
 use Rattle.fw_client.specs.Standing.{speech_of}
 use Rattle.fw_pool.specs.Counts.{submissions, is_submission}
-use Rattle.fw_seen.specs.Summary.{submitted, waiting, accept_line_of, accept_lines}
+use Rattle.fw_seen.specs.Summary.{submitted, correct_clients, waiting, accept_line_of, accept_lines}
 use Rattle.fw_seen.proofs.Clients.{Kept, kept_by, hear_took, given_took, sum_more}
 
 -- ---- a client accepts no more than it asked, one at a time
@@ -182,29 +185,83 @@ input_more (Agree i) input h c = omega arith
 input_more (Exec j) input h c = omega arith
 input_more (Filter r s) input h c = omega arith
 
--- it is one to one client at most
-given_once : (p : Params) (seat : Seat) (input : Taken) → sum_by (given_to seat input) (numbers_from 0 p.clients) ≡ count_of (is_submission p seat input)
-given_once p (Client k) (Submitted op) =
-    sum_once k 0 p.clients (omega arith) ∙ ap (λ n. count_of (nat_lt k n)) (let e : 0 + p.clients ≡ p.clients = omega arith in e)
-given_once p (Client k) (Heard from m) = sum_none _ (λ c. refl) (numbers_from 0 p.clients)
-given_once p (Client k) Tick = sum_none _ (λ c. refl) (numbers_from 0 p.clients)
-given_once p (Agree i) input = sum_none _ (λ c. refl) (numbers_from 0 p.clients)
-given_once p (Exec j) input = sum_none _ (λ c. refl) (numbers_from 0 p.clients)
-given_once p (Filter r s) input = sum_none _ (λ c. refl) (numbers_from 0 p.clients)
+and_no : (a b : Bool) → b ≡ false → (a && b) ≡ false
+and_no true b e = e
+and_no false b e = refl
+
+and_yes : (a b : Bool) → b ≡ true → (a && b) ≡ a
+and_yes true b e = e
+and_yes false b e = refl
+
+-- where a number passes, those that pass count for it as all do; where it doesn't, none counts
+sum_kept : (t : ℕ → Bool) (k : ℕ) → t k ≡ true → (cs : List ℕ) → sum_by (λ c. count_of (nat_eq k c)) (filter t cs) ≡ sum_by (λ c. count_of (nat_eq k c)) cs
+sum_kept t k passes [] = refl
+sum_kept t k passes (c ∷ cs) = by (sum_kept t k passes cs) (t c) refl
+  where
+    f : ℕ → ℕ
+    f x = count_of (nat_eq k x)
+
+    by : sum_by f (filter t cs) ≡ sum_by f cs → (b : Bool) → t c ≡ b → sum_by f (filter t (c ∷ cs)) ≡ sum_by f (c ∷ cs)
+    by rest true e =
+        let kept = ap (sum_by f) (filter_yes t c cs e) in
+        let x = sum_more f c (filter t cs) in
+        let y = sum_more f c cs in
+        omega (arith, rest, kept, x, y)
+    by rest false e =
+        let kept = ap (sum_by f) (filter_no t c cs e) in
+        let y = sum_more f c cs in
+        let none : f c ≡ 0 = elim (cases_Bool (nat_eq k c)) [
+          | inl same ↦ absurd (false≢true (sym e ∙ ap t (sym (eqb-true k c same)) ∙ passes))
+          | inr other ↦ ap count_of other
+        ] in
+        omega (arith, rest, kept, y, none)
+
+sum_gone : (t : ℕ → Bool) (k : ℕ) → t k ≡ false → (cs : List ℕ) → sum_by (λ c. count_of (nat_eq k c)) (filter t cs) ≡ 0
+sum_gone t k fails [] = refl
+sum_gone t k fails (c ∷ cs) = by (sum_gone t k fails cs) (t c) refl
+  where
+    f : ℕ → ℕ
+    f x = count_of (nat_eq k x)
+
+    by : sum_by f (filter t cs) ≡ 0 → (b : Bool) → t c ≡ b → sum_by f (filter t (c ∷ cs)) ≡ 0
+    by rest true e =
+        let kept = ap (sum_by f) (filter_yes t c cs e) in
+        let x = sum_more f c (filter t cs) in
+        let none : f c ≡ 0 = elim (cases_Bool (nat_eq k c)) [
+          | inl same ↦ absurd (false≢true (sym fails ∙ ap t (eqb-true k c same) ∙ e))
+          | inr other ↦ ap count_of other
+        ] in
+        omega (arith, rest, kept, x, none)
+    by rest false e = ap (sum_by f) (filter_no t c cs e) ∙ rest
+
+-- it is one to one correct client at most
+given_once : (p : Params) (faulty : List Seat) (seat : Seat) (input : Taken) → sum_by (given_to seat input) (correct_below faulty Client p.clients) ≡ count_of (is_submission (is_correct p faulty) seat input)
+given_once p faulty (Client k) (Submitted op) = elim (cases_Bool (is_faulty faulty (Client k))) [
+  | inl wrong ↦ sum_gone (λ c. not (is_faulty faulty (Client c))) k (ap not wrong) (numbers_from 0 p.clients) ∙ sym (ap count_of (and_no (nat_lt k p.clients) (not (is_faulty faulty (Client k))) (ap not wrong)))
+  | inr fine ↦
+      sum_kept (λ c. not (is_faulty faulty (Client c))) k (ap not fine) (numbers_from 0 p.clients)
+      ∙ sum_once k 0 p.clients (omega arith) ∙ ap (λ n. count_of (nat_lt k n)) (let e : 0 + p.clients ≡ p.clients = omega arith in e)
+      ∙ sym (ap count_of (and_yes (nat_lt k p.clients) (not (is_faulty faulty (Client k))) (ap not fine)))
+]
+given_once p faulty (Client k) (Heard from m) = sum_none _ (λ c. refl) (correct_below faulty Client p.clients)
+given_once p faulty (Client k) Tick = sum_none _ (λ c. refl) (correct_below faulty Client p.clients)
+given_once p faulty (Agree i) input = sum_none _ (λ c. refl) (correct_below faulty Client p.clients)
+given_once p faulty (Exec j) input = sum_none _ (λ c. refl) (correct_below faulty Client p.clients)
+given_once p faulty (Filter r s) input = sum_none _ (λ c. refl) (correct_below faulty Client p.clients)
 
 counted : (b : Bool) (n : ℕ) → (if b then n + 1 else n) ≡ n + count_of b
 counted true n = refl
 counted false n = omega arith
 
--- those of a log are those of all clients
-submitted_in_all : (p : Params) (log : List (Logged (List ℕ) Op)) → sum_by (λ c. submitted (history (Client c) log)) (numbers_from 0 p.clients) ≡ submissions p log
-submitted_in_all p [] = sum_none _ (λ c. refl) (numbers_from 0 p.clients)
-submitted_in_all p (l ∷ log) =
-    let ns = numbers_from 0 p.clients in
+-- those of a log are those of all correct clients
+submitted_in_all : (p : Params) (faulty : List Seat) (log : List (Logged (List ℕ) Op)) → sum_by (λ c. submitted (history (Client c) log)) (correct_below faulty Client p.clients) ≡ submissions (is_correct p faulty) log
+submitted_in_all p faulty [] = sum_none _ (λ c. refl) (correct_below faulty Client p.clients)
+submitted_in_all p faulty (l ∷ log) =
+    let ns = correct_below faulty Client p.clients in
     let split = sum_plus (λ c. submitted (history (Client c) (l ∷ log))) (λ c. submitted (history (Client c) log)) (given_to l.seat l.input) (λ c. input_more l.seat l.input (history (Client c) log) c) ns in
-    let rest = submitted_in_all p log in
-    let one = given_once p l.seat l.input in
-    let all = counted (is_submission p l.seat l.input) (submissions p log) in
+    let rest = submitted_in_all p faulty log in
+    let one = given_once p faulty l.seat l.input in
+    let all = counted (is_submission (is_correct p faulty) l.seat l.input) (submissions (is_correct p faulty) log) in
     omega (arith, split, rest, one, all)
 
 -- ---- the lines of what was accepted
@@ -219,10 +276,10 @@ lines_in_all d t (c ∷ cs) =
     omega (arith, rest, one, both, split)
 
 -- what waits is what was submitted and not accepted
-pub waiting_in_all : (d : Deployed) (t : Trace (List ℕ) Op) → waiting d t ≡ submissions d.directory.params t.log - length (accept_lines d t (numbers_from 0 d.directory.params.clients))
-waiting_in_all d t =
-    let ns = numbers_from 0 d.directory.params.clients in
+pub waiting_in_all : (d : Deployed) (faulty : List Seat) (t : Trace (List ℕ) Op) → waiting d faulty t ≡ submissions (is_correct d.directory.params faulty) t.log - length (accept_lines d t (correct_clients d faulty))
+waiting_in_all d faulty t =
+    let ns = correct_clients d faulty in
     let less = sum_less (λ c. submitted (history (Client c) t.log)) (λ c. length (accepted_by d c t)) (accepted-few d t) ns in
-    let all = submitted_in_all d.directory.params t.log in
+    let all = submitted_in_all d.directory.params faulty t.log in
     let lines = lines_in_all d t ns in
     omega (arith, less.0, all, lines)

@@ -1,11 +1,12 @@
--- What the report says of a trace over frames in bytes, in a deployment of any size in which nobody is faulty.
+-- What the report says of a trace over frames in bytes, in a deployment of any size: of its correct clients, agreement nodes and rows.
 use Rattle.std.specs.Prelude.{ℕ, ◌+◌, ◌-◌, List, [], ◌∷◌, ◌++◌, map, length, Option, Some, None, option_and_then, if◌then◌else◌, count_by, ◌==◌}
 use Rattle.std.specs.Option.{option_to_list}
 use Rattle.std.specs.List.{sum_by}
 use Rattle.fw_list.specs.Lists.{numbers_from}
 use Rattle.fw_base.specs.declared.params.Params.{Params}
+use Rattle.fw_base.specs.declared.seat.Seat.{Seat}
 use Rattle.fw_base.specs.declared.seat.Seat.TheVariants.{Agree, Exec, Client}
-use Rattle.fw_base.specs.Sizes.{agreements, width}
+use Rattle.fw_base.specs.Sizes.{agreements}
 use Rattle.fw_op.specs.declared.op.Op.{Op}
 use Rattle.fw_op.specs.declared.reply.Reply.{Reply}
 use Rattle.fw_trace.specs.declared.Told.{Told}
@@ -22,7 +23,9 @@ use Rattle.fw_node.specs.Histories.{History}
 use Rattle.fw_rules.specs.Agree.{greatest}
 use Rattle.fw_rules.specs.Views.{agree_role}
 use Rattle.fw_rules.specs.Deployed.{means_of, bodies_of}
-use Rattle.fw_rules.specs.World.{Deployed, rules, agreed, accepted_by, in_row}
+use Rattle.fw_rules.specs.World.{Deployed, rule_at, agreed, accepted_by, in_row}
+use Rattle.fw_fair.specs.Correct.{correct_below, whole_rows}
+use Rattle.fw_fair.specs.Hostile.{rules_among}
 use Rattle.fw_report.specs.declared.summary.Said.{Said}
 use Rattle.fw_report.specs.declared.summary.Said.TheVariants as said
 use Rattle.fw_report.specs.declared.summary.AgreedLine.{AgreedLine}
@@ -101,9 +104,13 @@ submitted (input ∷ h) = submitted h
 abbrev pub waiting_at : Deployed → Trace (List ℕ) Op → ℕ → ℕ
 waiting_at d t c = submitted (history (Client c) t.log) - length (accepted_by d c t)
 
--- those of all clients
-abbrev pub waiting : Deployed → Trace (List ℕ) Op → ℕ
-waiting d t = sum_by (waiting_at d t) (numbers_from 0 d.directory.params.clients)
+-- the correct clients of a deployment with these faulty seats, by number
+abbrev pub correct_clients : Deployed → List Seat → List ℕ
+correct_clients d faulty = correct_below faulty Client d.directory.params.clients
+
+-- those of all correct clients
+abbrev pub waiting : Deployed → List Seat → Trace (List ℕ) Op → ℕ
+waiting d faulty t = sum_by (waiting_at d t) (correct_clients d faulty)
 
 -- the view of an agreement node
 abbrev pub view_at : Deployed → Trace (List ℕ) Op → ℕ → ℕ
@@ -111,27 +118,27 @@ view_at d t i =
     let seat = Agree i in
     (kept (agree_role (record { own = i; means = means_of d.directory (d.hand seat) })) (history seat t.log)).own.view
 
--- the greatest of all their views
-abbrev pub greatest_view : Deployed → Trace (List ℕ) Op → ℕ
-greatest_view d t = greatest (map (view_at d t) (numbers_from 0 (agreements d.directory.params)))
+-- the greatest view of a correct one
+abbrev pub greatest_view : Deployed → List Seat → Trace (List ℕ) Op → ℕ
+greatest_view d faulty t = greatest (map (view_at d t) (correct_below faulty Agree (agreements d.directory.params)))
 
 -- ---- the whole
 
 -- the summary of a trace; an executor's hand has the keys of all clients
-unfoldable pub summary_of : Deployed → Trace (List ℕ) Op → Summary
-summary_of d t =
+unfoldable pub summary_of : Deployed → List Seat → Trace (List ℕ) Op → Summary
+summary_of d faulty t =
     let p = d.directory.params in
     record {
       agreed = agreed_lines (d.hand (Exec 0)) 1 (agreed d t);
-      accepted = accept_lines d t (numbers_from 0 p.clients);
-      cross = cross_lines p t.pool (numbers_from 0 (width p));
-      waiting = waiting d t;
-      rest = rests_from (rules d) t.log 0 t.pool;
-      view = greatest_view d t;
+      accepted = accept_lines d t (correct_clients d faulty);
+      cross = cross_lines p t.pool (whole_rows p faulty);
+      waiting = waiting d faulty t;
+      rest = rests_from (rules_among p faulty (rule_at d)) t.log 0 t.pool;
+      view = greatest_view d faulty t;
       events = length t.log;
       frames = length t.pool;
     }
 
 -- the report of a trace
-abbrev pub report_of : Deployed → Trace (List ℕ) Op → List ℕ
-report_of d t = report_text (summary_of d t)
+abbrev pub report_of : Deployed → List Seat → Trace (List ℕ) Op → List ℕ
+report_of d faulty t = report_text (summary_of d faulty t)

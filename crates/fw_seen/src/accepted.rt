@@ -1,14 +1,13 @@
-//! What the clients accepted, and what they wait for.
+//! What the clients accepted.
 
-ghost use Rattle.std.specs.Prelude.{◌≡◌, ◌++◌, ◌<◌, ◌^◌, ℕ, List, IfOk, OnOk, IsTrue, length, map};
-ghost use Rattle.fw_list.specs.Lists.{numbers_from};
-ghost use Rattle.fw_base.specs.Sizes.{accepted};
+ghost use Rattle.std.specs.Prelude.{◌≡◌, ◌++◌, ℕ, List, IfOk, OnOk, map};
 ghost use Rattle.fw_op.specs.declared.op.Op.{Op};
 ghost use Rattle.fw_trace.specs.Trace.{Trace};
 ghost use Rattle.fw_rules.specs.World.{Deployed};
-ghost use Rattle.fw_seen.specs.Summary.{accept_line_of, accept_lines, waiting};
-ghost use Rattle.fw_seen.specs.Clients.{AreClientsOf, AreWithin};
+ghost use Rattle.fw_seen.specs.Summary.{accept_line_of, accept_lines};
+ghost use Rattle.fw_seen.specs.Clients.{AreClientsOf};
 
+use fw_base::Seat;
 use fw_client::{Accepted, ClientNode};
 use fw_list::{Items, Memory};
 use fw_node::Node;
@@ -35,31 +34,25 @@ fn push_accepted(
     Ok(())
 }
 
-/// The lines of what these clients accepted, client by client.
-pub fn accept_lines(alloc: Global, clients: &[ClientNode]) -> Result<Items<AcceptLine>, Memory>
-    requires { length clients.now < 2 ^ 32 }
-    ensures { IfOk result (λ lines. (d : Deployed) (t : Trace (List ℕ) Op)
-        → AreClientsOf ⟦<ClientNode as Node>⟧.stands_for clients.now d t
-        → lines ≡ accept_lines d t (numbers_from 0 (length clients.now))) }
+/// The number of a client.
+fn number_of(client: &ClientNode) -> u32
+    ensures { result ≡ client.now.client }
 {
-    let mut lines = Items::new(alloc);
-    for (k, client) in clients.iter().enumerate() {
-        push_accepted(alloc, &mut lines, k as u32, client.accepted())?;
+    match client.seat() {
+        Seat::Client(c) => c,
+        _ => unreachable!(),
     }
-    Ok(lines)
 }
 
-/// How many submissions to these clients, which are all of a deployment, they haven't accepted a reply to, where nobody asked one for
-/// more than it takes.
-pub fn waiting(clients: &[ClientNode]) -> u32
-    ensures { (d : Deployed) (t : Trace (List ℕ) Op)
-        → IsTrue (accepted d.directory.params) → length clients.now ≡ d.directory.params.clients
-        → AreClientsOf ⟦<ClientNode as Node>⟧.stands_for clients.now d t → AreWithin d t
-        → result ≡ waiting d t }
+/// The lines of what these clients accepted, client by client.
+pub fn accept_lines(alloc: Global, clients: &[ClientNode]) -> Result<Items<AcceptLine>, Memory>
+    ensures { IfOk result (λ lines. (d : Deployed) (t : Trace (List ℕ) Op) (numbers : List ℕ)
+        → AreClientsOf ⟦<ClientNode as Node>⟧.stands_for clients.now d t numbers
+        → lines ≡ accept_lines d t numbers) }
 {
-    let mut count = 0u32;
+    let mut lines = Items::new(alloc);
     for client in clients {
-        count = count.saturating_add(client.waiting());
+        push_accepted(alloc, &mut lines, number_of(client), client.accepted())?;
     }
-    count
+    Ok(lines)
 }

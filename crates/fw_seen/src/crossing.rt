@@ -2,17 +2,19 @@
 
 ghost use Rattle.std.specs.Prelude.{◌≡◌, ◌≤◌, ◌<◌, ◌^◌, ◌==◌, ◌++◌, IfOk, OnOk, IsTrue, count_by, length};
 ghost use Rattle.fw_list.specs.Lists.{numbers_from};
-ghost use Rattle.fw_base.specs.Sizes.{accepted, width};
+ghost use Rattle.fw_base.specs.Sizes.{accepted};
 ghost use Rattle.fw_frame.specs.Plain.{plain};
 ghost use Rattle.fw_trace.specs.Trace.{crossing};
 ghost use Rattle.fw_rules.specs.World.{in_row};
+ghost use Rattle.fw_fair.specs.Correct.{is_whole, whole_rows};
 ghost use Rattle.fw_seen.specs.Summary.{reply_in, reply_number, reply_numbers, line_of_copies, row_lines, cross_lines};
-ghost use Rattle.fw_seen.specs.Crossing.{crossing_number};
+ghost use Rattle.fw_seen.specs.Crossing.{crossing_number, whole_row_lines};
 
 use fw_base::{Params, Seat};
 use fw_frame::Frame;
 use fw_list::{Bytes, Items, Memory};
 use fw_report::CrossLine;
+use fw_step::is_faulty;
 use fw_trace::Sent;
 use std::alloc::Global;
 
@@ -124,20 +126,54 @@ fn push_row(
     Ok(())
 }
 
-/// The lines of all rows: for each row and number how many reply frames of that number the row sent downwards, where it sent some.
+/// Whether all filters of a row are correct.
+fn is_whole(params: &Params, faulty: &[Seat], row: u32) -> bool
+    requires { IsTrue (accepted params.now) }
+    ensures { result ≡ is_whole params.now faulty.now row }
+{
+    for column in 0..params.width() {
+        if is_faulty(faulty, Seat::Filter(row, column)) {
+            return false;
+        }
+    }
+    true
+}
+
+/// Adds the lines of a row, if all its filters are correct.
+fn add_row(
+    alloc: Global,
+    params: &Params,
+    faulty: &[Seat],
+    pool: &[Sent<Bytes>],
+    row: u32,
+    lines: &mut Items<CrossLine>,
+) -> Result<(), Memory>
+    requires sizes { IsTrue (accepted params.now) }
+    requires few { length pool.now < 2 ^ 32 }
+    ensures { OnOk result (lines.new ≡ lines.old ++ whole_row_lines params.now faulty.now pool.now row) }
+{
+    if !is_whole(params, faulty, row) {
+        return Ok(());
+    }
+    let down = let_down(alloc, params, row, pool)?;
+    push_row(params, lines, row, down.items())
+}
+
+/// The lines of all rows whose filters are correct: for each such row and number how many reply frames of that number the row sent
+/// downwards, where it sent some.
 pub fn cross_lines(
     alloc: Global,
     params: &Params,
+    faulty: &[Seat],
     pool: &[Sent<Bytes>],
 ) -> Result<Items<CrossLine>, Memory>
     requires sizes { IsTrue (accepted params.now) }
     requires few { length pool.now < 2 ^ 32 }
-    ensures { IfOk result (λ lines. lines ≡ cross_lines params.now pool.now (numbers_from 0 (width params.now))) }
+    ensures { IfOk result (λ lines. lines ≡ cross_lines params.now pool.now (whole_rows params.now faulty.now)) }
 {
     let mut lines = Items::new(alloc);
     for row in 0..params.width() {
-        let down = let_down(alloc, params, row, pool)?;
-        push_row(params, &mut lines, row, down.items())?;
+        add_row(alloc, params, faulty, pool, row, &mut lines)?;
     }
     Ok(lines)
 }

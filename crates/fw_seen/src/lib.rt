@@ -8,7 +8,7 @@ mod crossing;
 mod entries;
 mod whole;
 
-pub use accepted::{accept_lines, waiting};
+pub use accepted::accept_lines;
 pub use agreed::agreed_lines;
 pub use crossing::cross_lines;
 pub use whole::{Counts, summary};

@@ -18,7 +18,7 @@ use Rattle.fw_rules.specs.Choices.{admitted}
 use Rattle.fw_rules.specs.Deployed.{means_of}
 use Rattle.fw_rules.specs.Agree.{Node, Self, Step, all_proofs, makes_offers, casts_votes}
 use Rattle.fw_rules.specs.Views.{entries_of, hears_change, hears_new_view, hears_all, changes_view, passes, passes_after, ticks, agree_next, agree_role}
-use Rattle.fw_sendable.specs.Rule.{views_rule}
+use Rattle.fw_sendable.specs.Rule.{agree_rule}
 use Rattle.fw_lengths.proofs.Pieces.{IsShortEntry, IsShortProof, IsShortChange, IsShort, IsForClients}
 use Rattle.fw_lengths.proofs.Options.{all_more, when-some, flat-all}
 use Rattle.fw_lengths.proofs.Signed.{IsShortMeans, deployed-short}
@@ -117,8 +117,8 @@ sends-fit me k [] = All-nil _
 sends-fit me k (i ∷ h) = (next-fit me k (kept (agree_role me) h) (kept-fit me k h) i).1
 
 -- each frame that the whole rule of an agreement node sends can be sent
-pub views_send : (p : Params) (i : ℕ) (hand : PlainHand) → IsTrue (accepted p) → (d : PlainDirectory) (h : History) → d.params ≡ p → AreSendable p (views_rule i hand d h)
-views_send p i hand sizes d h same =
+pub agree_sends : (p : Params) (i : ℕ) (hand : PlainHand) → IsTrue (accepted p) → (d : PlainDirectory) (h : History) → d.params ≡ p → AreSendable p (agree_rule i hand d h)
+agree_sends p i hand sizes d h same =
     let fine : IsTrue (accepted d.params) = subst (λ (q : Params). IsTrue (accepted q)) (sym same) sizes in
-    subst (λ (q : Params). AreSendable q (views_rule i hand d h)) same
+    subst (λ (q : Params). AreSendable q (agree_rule i hand d h)) same
     (sends-fit (record { own = i; means = means_of d hand }) (deployed-short d hand fine) h)

@@ -73,3 +73,8 @@ step_fits p faulty (steps.Flush most) = within 1 most MOST_FLUSHED
 step_fits p faulty (steps.Tick seat) = is_correct p faulty seat
 step_fits p faulty (steps.Lie from to lie) =
     fits p from && (is_faulty faulty from && (fits p to && (linked p from to && lie_fits p from lie)))
+
+-- it is no lie
+abbrev pub is_honest : Step → Bool
+is_honest (steps.Lie from to lie) = false
+is_honest step = true

@@ -13,6 +13,7 @@ ghost use Rattle.fw_step.specs.Spelling.{IsStepText};
 ghost use Rattle.fw_step.specs.Fitting.{is_faulty, is_correct, step_fits};
 ghost use Rattle.fw_step.specs.Parts.{IsStepOf};
 
+use crate::correct::is_faulty;
 use crate::lie::lie_of;
 use crate::text::cut;
 use crate::{LAST_FRAME, MOST_FLUSHED, Step};
@@ -20,12 +21,6 @@ use fw_base::{Params, Seat, linked};
 use fw_list::Memory;
 use fw_op::{Op, Words, client_of, number_of};
 use std::alloc::Global;
-
-fn is_faulty(faulty: &[Seat], seat: Seat) -> bool
-    ensures { result ≡ is_faulty faulty.now seat }
-{
-    faulty.iter().any(|other| seat.is(*other))
-}
 
 /// The correct client, and what follows it.
 fn correct_client<'a>(params: &Params, faulty: &[Seat], text: &'a str) -> Option<(u32, &'a str)>

@@ -7,24 +7,27 @@ use Rattle.fw_trace.specs.Run as runs
 use Rattle.fw_directory.specs.Directories.{PlainDirectory}
 use Rattle.fw_deal.specs.Deals.{PlainDeal, IsDirectoryOf}
 use Rattle.fw_rules.specs.declared.limits.Which.{Which}
-use Rattle.fw_rules.specs.World.{world}
+use Rattle.fw_fair.specs.Hostile.{Hostile, silent}
 use Rattle.fw_grid.specs.Schedule.{schedule}
-use Rattle.fw_law_honest.specs.Laws.{deployed}
 
 -- the deal of a plan's sizes, seed and records
 abbrev pub deal_of : Plan → PlainDeal
 deal_of p = record { origin = record { params = p.params; seed = p.seed }; starts = p.starts }
 
--- the trace is that of the plan's run, in the deployment of its deal, whose directory this is
+-- its deployment: the deal, the deal's directory, and the faulty seats
+abbrev pub deployment_of : Plan → PlainDirectory → Hostile
+deployment_of p d = record { deal = deal_of p; directory = d; faulty = p.faulty }
+
+-- the trace is that of the plan's run, in its deployment, whose directory this is
 pub record IsRunOf (p : Plan) (d : PlainDirectory) (t : Trace (List ℕ) Op) : Type 0 where
   pub dealt : IsDirectoryOf (deal_of p).origin d
-  pub run : runs.run (world (deployed (deal_of p) d)) (schedule p.steps) ≡ Ok t
+  pub run : runs.run (silent (deployment_of p d)) (schedule p.steps) ≡ Ok t
 
 -- the plan's run fails at a step: too many frames would be sent, or too many bytes
 pub record FailsAt (p : Plan) (step : ℕ) (which : Which) : Type 0 where
   pub directory : PlainDirectory
   pub dealt : IsDirectoryOf (deal_of p).origin directory
-  pub run : runs.run (world (deployed (deal_of p) directory)) (schedule p.steps) ≡ Err (step, which)
+  pub run : runs.run (silent (deployment_of p directory)) (schedule p.steps) ≡ Err (step, which)
 
 -- it fails at no step
 pub record IsWithin (p : Plan) : Type 0 where

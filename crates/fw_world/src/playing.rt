@@ -45,11 +45,11 @@ pub fn play<L: Ledger>(
     requires can { IsTrue (can_replay plan) }
     requires deal { deal ≡ deal_of plan }
     ensures run { IfOk result (λ world. IsRunOf plan world.seen.directory world.seen.trace) }
-    ensures played { IfOk result (λ world. (keys : PlainHand) → keys ≡ hand_of (deal_of plan) (Exec 0) → ArePlayed ⟦<AgreeNode as Node>⟧.hand ⟦<ClientNode as Node>⟧.hand (deployed (deal_of plan) world.seen.directory) world.seen keys) }
+    ensures played { IfOk result (λ world. (keys : PlainHand) → keys ≡ hand_of (deal_of plan) (Exec 0) → ArePlayed ⟦<AgreeNode as Node>⟧.hand ⟦<ClientNode as Node>⟧.hand (deployed (deal_of plan) world.seen.directory) plan.faulty world.seen keys) }
     ensures err { IfErr result (λ why. ((step : ℕ) × (which : Which) × (why ≡ RunFault.Limit step which) × FailsAt plan step which) ⊎ (why ≡ RunFault.Memory)) }
 {
-    let grid = cores(alloc, &deal)?;
-    let mut world = World::new(alloc, deal.into_directory(), plan.steps, grid)?;
+    let grid = cores(alloc, &deal, plan.faulty.items())?;
+    let mut world = World::new(alloc, deal.into_directory(), plan.faulty, plan.steps, grid)?;
     match world.run(steps) {
         Ok(()) => Ok(world),
         Err(fault) => Err(fault),

@@ -1,6 +1,7 @@
 //! The report of nodes at work.
 
-ghost use Rattle.std.specs.Prelude.{◌≡◌, IfOk};
+ghost use Rattle.std.specs.Prelude.{◌≡◌, List, IfOk};
+ghost use Rattle.fw_base.specs.declared.seat.Seat as declared;
 ghost use Rattle.fw_rules.specs.World.{Deployed};
 ghost use Rattle.fw_seen.specs.Summary.{report_of};
 ghost use Rattle.fw_world.specs.Played.{ArePlayed};
@@ -25,8 +26,8 @@ pub(crate) fn report_of<L: Ledger>(
     keys: &Hand,
     steps: &mut Steps<L>,
 ) -> Result<Bytes, Memory>
-    requires { (d : Deployed) × ArePlayed ⟦<AgreeNode as Node>⟧.hand ⟦<ClientNode as Node>⟧.hand d world.now.seen keys.now }
-    ensures { IfOk result (λ text. (d : Deployed) → ArePlayed ⟦<AgreeNode as Node>⟧.hand ⟦<ClientNode as Node>⟧.hand d world.now.seen keys.now → text ≡ report_of d world.now.seen.trace) }
+    requires { (d : Deployed) × ((faulty : List declared.Seat) × ArePlayed ⟦<AgreeNode as Node>⟧.hand ⟦<ClientNode as Node>⟧.hand d faulty world.now.seen keys.now) }
+    ensures { IfOk result (λ text. (d : Deployed) (faulty : List declared.Seat) → ArePlayed ⟦<AgreeNode as Node>⟧.hand ⟦<ClientNode as Node>⟧.hand d faulty world.now.seen keys.now → text ≡ report_of d faulty world.now.seen.trace) }
 {
     let counts = Counts {
         submissions: world.submissions(),
@@ -37,6 +38,7 @@ pub(crate) fn report_of<L: Ledger>(
     let summary = summary(
         alloc,
         world.directory(),
+        world.faulty(),
         keys,
         world.clients(),
         world.frames(),

@@ -1,7 +1,10 @@
 //! The views of nodes at work.
 
-ghost use Rattle.std.specs.Prelude.{◌≡◌, ◌<◌, max, false, IsTrue};
-ghost use Rattle.fw_base.specs.Sizes.{accepted, agreements};
+ghost use Rattle.std.specs.Prelude.{◌≡◌, ◌<◌, max, not, false, List, if◌then◌else◌, IfSome, IfNone, IsTrue};
+ghost use Rattle.fw_base.specs.Sizes.{agreements};
+ghost use Rattle.fw_base.specs.declared.seat.Seat.{Seat};
+ghost use Rattle.fw_base.specs.declared.seat.Seat.TheVariants.{Agree};
+ghost use Rattle.fw_step.specs.Fitting.{is_faulty, is_correct};
 ghost use Rattle.fw_hand.specs.Hands.{PlainHand};
 ghost use Rattle.fw_rules.specs.World.{Deployed};
 ghost use Rattle.fw_seen.specs.Summary.{view_at, greatest_view};
@@ -12,15 +15,16 @@ use fw_agree::AgreeNode;
 use fw_client::ClientNode;
 use fw_node::Node;
 
-/// The view of an agreement node.
-fn view_of(world: &Cast, i: u32) -> u32
-    requires going { world.now.seen.failed ≡ false }
-    requires fits { i < agreements world.now.seen.directory.params }
-    ensures { (d : Deployed) (keys : PlainHand) → ArePlayed ⟦<AgreeNode as Node>⟧.hand ⟦<ClientNode as Node>⟧.hand d world.now.seen keys → result ≡ view_at d world.now.seen.trace i }
+/// The view of an agreement node; none where there is no such seat, or it is faulty.
+fn view_of(world: &Cast, i: u32) -> Option<u32>
+    requires { world.now.seen.failed ≡ false }
+    ensures found { IfSome result (λ view. (d : Deployed) (faulty : List Seat) (keys : PlainHand) → ArePlayed ⟦<AgreeNode as Node>⟧.hand ⟦<ClientNode as Node>⟧.hand d faulty world.now.seen keys → view ≡ view_at d world.now.seen.trace i) }
+    ensures correct { IfSome result (λ view. IsTrue (is_correct world.now.seen.directory.params world.now.seen.faulty (Agree i))) }
+    ensures none { IfNone result (is_correct world.now.seen.directory.params world.now.seen.faulty (Agree i) ≡ false) }
 {
     match world.agree(i) {
-        Some(node) => node.view(),
-        None => unreachable!(),
+        Some(node) => Some(node.view()),
+        None => None,
     }
 }
 
@@ -31,15 +35,28 @@ fn greater(one: u32, other: u32) -> u32
     if one < other { other } else { one }
 }
 
-/// The greatest view of all agreement nodes of a deployment.
+/// The greater of a view and that of an agreement node, where it is correct.
+fn with_view_of(world: &Cast, greatest: u32, i: u32) -> u32
+    requires going { world.now.seen.failed ≡ false }
+    requires fits { i < agreements world.now.seen.directory.params }
+    ensures { (d : Deployed) (faulty : List Seat) (keys : PlainHand) → ArePlayed ⟦<AgreeNode as Node>⟧.hand ⟦<ClientNode as Node>⟧.hand d faulty world.now.seen keys
+        → result ≡ (if not (is_faulty faulty (Agree i)) then max greatest (view_at d world.now.seen.trace i) else greatest) }
+{
+    match view_of(world, i) {
+        Some(view) => greater(greatest, view),
+        None => greatest,
+    }
+}
+
+/// The greatest view of the correct agreement nodes of a deployment.
 pub(crate) fn greatest_view(world: &Cast) -> u32
     requires { world.now.seen.failed ≡ false }
-    ensures { (d : Deployed) (keys : PlainHand) → ArePlayed ⟦<AgreeNode as Node>⟧.hand ⟦<ClientNode as Node>⟧.hand d world.now.seen keys → result ≡ greatest_view d world.now.seen.trace }
+    ensures { (d : Deployed) (faulty : List Seat) (keys : PlainHand) → ArePlayed ⟦<AgreeNode as Node>⟧.hand ⟦<ClientNode as Node>⟧.hand d faulty world.now.seen keys → result ≡ greatest_view d faulty world.now.seen.trace }
 {
     let count = world.directory().params().agreements();
     let mut greatest = 0;
     for i in 0..count {
-        greatest = greater(greatest, view_of(world, i));
+        greatest = with_view_of(world, greatest, i);
     }
     greatest
 }

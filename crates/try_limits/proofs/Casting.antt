@@ -8,7 +8,7 @@ use Rattle.fw_base.specs.declared.params.Params.{Params}
 use Rattle.fw_base.specs.declared.seat.Seat.{Seat}
 use Rattle.fw_base.specs.Seats.{fits}
 use Rattle.fw_step.specs.declared.step.Step.{Step}
-use Rattle.fw_step.specs.Fitting.{step_fits}
+use Rattle.fw_step.specs.Fitting.{is_honest, step_fits}
 use Rattle.fw_directory.specs.Directories.{PlainDirectory}
 use Rattle.fw_node.specs.Histories.{History, AreSendable}
 use Rattle.fw_node.proofs.Sendable.{AllFit, to_all}
@@ -32,6 +32,9 @@ fit_more p seats seat all one = All-append (λ s. IsTrue (fits p s)) seats (seat
 pub steps_more : (p : Params) (steps : List Step) (step : Step) → IsTrue (list_all (step_fits p []) steps) → IsTrue (step_fits p [] step) → IsTrue (list_all (step_fits p []) (steps ++ step ∷ []))
 steps_more p steps step all one =
     list_all-append (step_fits p []) steps (step ∷ []) ∙ and_from (list_all (step_fits p []) steps) (list_all (step_fits p []) (step ∷ [])) all (and_from (step_fits p [] step) true one refl)
+
+pub honest_more : (steps : List Step) (step : Step) → IsTrue (list_all is_honest steps) → IsTrue (is_honest step) → IsTrue (list_all is_honest (steps ++ step ∷ []))
+honest_more steps step all one = list_all-append is_honest steps (step ∷ []) ∙ and_from (list_all is_honest steps) (list_all is_honest (step ∷ [])) all (and_from (is_honest step) true one refl)
 
 -- ---- the one node of a kind
 

@@ -85,8 +85,8 @@ fn only(alloc: Global, own: Seat, to: Seat, each: u32, len: u32) -> Result<Nodes
 pub fn cast(alloc: Global, each: u32, len: u32) -> Result<Grid<Toy, Toy, Toy, Toy>, Memory>
     requires some { 1 ≤ len }
     requires most { len ≤ LONGEST_FRAME }
-    ensures seated { IfOk result (λ grid. AllSeated ⟦<Toy as Node>⟧.params ⟦<Toy as Node>⟧.own ⟦<Toy as Node>⟧.params ⟦<Toy as Node>⟧.own ⟦<Toy as Node>⟧.params ⟦<Toy as Node>⟧.own ⟦<Toy as Node>⟧.params ⟦<Toy as Node>⟧.own PARAMS (nodes_of grid)) }
-    ensures fresh { IfOk result (λ grid. (d : PlainDirectory) → AllStanding ⟦<Toy as Node>⟧.stands_for ⟦<Toy as Node>⟧.is_stopped ⟦<Toy as Node>⟧.stands_for ⟦<Toy as Node>⟧.is_stopped ⟦<Toy as Node>⟧.stands_for ⟦<Toy as Node>⟧.is_stopped ⟦<Toy as Node>⟧.stands_for ⟦<Toy as Node>⟧.is_stopped d (λ seat. []) (nodes_of grid)) }
+    ensures seated { IfOk result (λ grid. AllSeated ⟦<Toy as Node>⟧.params ⟦<Toy as Node>⟧.own ⟦<Toy as Node>⟧.params ⟦<Toy as Node>⟧.own ⟦<Toy as Node>⟧.params ⟦<Toy as Node>⟧.own ⟦<Toy as Node>⟧.params ⟦<Toy as Node>⟧.own PARAMS [] (nodes_of grid)) }
+    ensures fresh { IfOk result (λ grid. (d : PlainDirectory) → AllStanding ⟦<Toy as Node>⟧.stands_for ⟦<Toy as Node>⟧.is_stopped ⟦<Toy as Node>⟧.stands_for ⟦<Toy as Node>⟧.is_stopped ⟦<Toy as Node>⟧.stands_for ⟦<Toy as Node>⟧.is_stopped ⟦<Toy as Node>⟧.stands_for ⟦<Toy as Node>⟧.is_stopped d [] (λ seat. []) (nodes_of grid)) }
 {
     let agree = only(alloc, Seat::Agree(0), Seat::Client(0), each, len)?;
     let exec = only(alloc, Seat::Exec(0), Seat::Filter(0, 0), each, len)?;

@@ -13,7 +13,7 @@ use fw_deal::Deal;
 use fw_digest::Steps;
 use fw_directory::Directory;
 use fw_grid::{RunFault, World};
-use fw_list::{Bytes, Memory};
+use fw_list::{Bytes, Items, Memory};
 use fw_rules::Which;
 use std::alloc::Global;
 use std::marker::Brand;
@@ -38,7 +38,7 @@ fn world_of(alloc: Global, asked: &Asked) -> Result<World<Toy, Toy, Toy, Toy>, M
     let directory = smallest(alloc)?;
     let steps = schedule(alloc, asked.kind, asked.count)?;
     let grid = cast(alloc, asked.each, asked.length)?;
-    let world = World::new(alloc, directory, steps, grid)?;
+    let world = World::new(alloc, directory, Items::new(alloc), steps, grid)?;
     Ok(world)
 }
 

@@ -2,7 +2,7 @@
 
 ghost use Rattle.std.specs.Prelude.{◌≤◌, [], OnOk, IfOk, IsTrue};
 ghost use Rattle.std.specs.List.{list_all};
-ghost use Rattle.fw_step.specs.Fitting.{step_fits};
+ghost use Rattle.fw_step.specs.Fitting.{is_honest, step_fits};
 ghost use Rattle.fw_step.specs.declared.limits.TheConstants.{MOST_FLUSHED};
 ghost use Rattle.try_limits.specs.declared.cast.TheConstants.{PARAMS};
 
@@ -15,7 +15,8 @@ use std::alloc::Global;
 
 /// The one client's user submits an operation.
 fn submission() -> Step
-    ensures { IsTrue (step_fits PARAMS [] result) }
+    ensures fit { IsTrue (step_fits PARAMS [] result) }
+    ensures honest { IsTrue (is_honest result) }
 {
     Step::Submit {
         client: 0,
@@ -27,7 +28,8 @@ fn submission() -> Step
 fn step_of(kind: Kind, count: u32) -> Step
     requires least { 1 ≤ count }
     requires most { count ≤ MOST_FLUSHED }
-    ensures { IsTrue (step_fits PARAMS [] result) }
+    ensures fit { IsTrue (step_fits PARAMS [] result) }
+    ensures honest { IsTrue (is_honest result) }
 {
     match kind {
         Kind::Frames => submission(),
@@ -48,12 +50,14 @@ fn times_of(kind: Kind, count: u32) -> u32 {
 }
 
 /// Adds a step so many times.
-#[tactic(auto, using(crate::proofs::Casting::steps_more))]
+#[tactic(auto, using(crate::proofs::Casting::steps_more, crate::proofs::Casting::honest_more))]
 fn add(steps: &mut Items<Step>, kind: Kind, count: u32) -> Result<(), Memory>
     requires least { 1 ≤ count }
     requires most { count ≤ MOST_FLUSHED }
     requires fit { IsTrue (list_all (step_fits PARAMS []) steps.old) }
-    ensures { OnOk result (IsTrue (list_all (step_fits PARAMS []) steps.new)) }
+    requires honest { IsTrue (list_all is_honest steps.old) }
+    ensures fit { OnOk result (IsTrue (list_all (step_fits PARAMS []) steps.new)) }
+    ensures honest { OnOk result (IsTrue (list_all is_honest steps.new)) }
 {
     for _ in 0..times_of(kind, count) {
         steps.push(step_of(kind, count))?;
@@ -62,9 +66,10 @@ fn add(steps: &mut Items<Step>, kind: Kind, count: u32) -> Result<(), Memory>
 }
 
 /// The first steps of a kind: none, or a submission where a frame must come before the others.
-#[tactic(auto, using(crate::proofs::Casting::steps_more))]
+#[tactic(auto, using(crate::proofs::Casting::steps_more, crate::proofs::Casting::honest_more))]
 fn begun(alloc: Global, kind: Kind) -> Result<Items<Step>, Memory>
-    ensures { IfOk result (λ steps. IsTrue (list_all (step_fits PARAMS []) steps)) }
+    ensures fit { IfOk result (λ steps. IsTrue (list_all (step_fits PARAMS []) steps)) }
+    ensures honest { IfOk result (λ steps. IsTrue (list_all is_honest steps)) }
 {
     let mut steps = Items::new(alloc);
     if matches!(kind, Kind::Frames | Kind::Ticks) {
@@ -78,7 +83,8 @@ fn begun(alloc: Global, kind: Kind) -> Result<Items<Step>, Memory>
 pub fn schedule(alloc: Global, kind: Kind, count: u32) -> Result<Items<Step>, Memory>
     requires least { 1 ≤ count }
     requires most { count ≤ MOST_FLUSHED }
-    ensures { IfOk result (λ steps. IsTrue (list_all (step_fits PARAMS []) steps)) }
+    ensures fit { IfOk result (λ steps. IsTrue (list_all (step_fits PARAMS []) steps)) }
+    ensures honest { IfOk result (λ steps. IsTrue (list_all is_honest steps)) }
 {
     let mut steps = begun(alloc, kind)?;
     add(&mut steps, kind, count)?;

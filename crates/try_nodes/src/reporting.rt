@@ -63,6 +63,7 @@ fn reported<L: Ledger>(
     let told = summary(
         alloc,
         directory,
+        &[],
         keys,
         from_ref(node),
         &pool,

@@ -14,8 +14,6 @@ use Rattle.fw_step.specs.declared.step.Step.{Step}
 use Rattle.fw_step.specs.declared.step.Step.TheVariants.{Submit, Deliver, Flush, Tick, Lie}
 use Rattle.fw_step.specs.Fitting.{is_correct, step_fits}
 use Rattle.fw_sched.specs.declared.plan.Plan.{Plan}
-use Rattle.fw_sched.specs.Replayed.{can_replay}
-use Rattle.fw_world.proofs.OwnRun.{nobody_faulty}
 use Rattle.fw_grid.proofs.Asking.{op_more, few_clients}
 use Rattle.try_plain.specs.Turns.{IsAskable}
 
@@ -41,9 +39,9 @@ are_askable p (s ∷ steps) sizes fit =
     let both = and_parts (step_fits p [] s) (list_all (step_fits p []) steps) fit in
     All-cons IsAskable s steps (askable p s sizes both.0) (are_askable p steps sizes both.1)
 
--- the steps of a plan that can be replayed fit where nobody is faulty
-pub own_steps : (p : Plan) → IsTrue (can_replay p) → IsTrue (list_all (step_fits p.params p.faulty) p.steps) → IsTrue (list_all (step_fits p.params []) p.steps)
-own_steps p can fit = subst (λ (f : List Seat). list_all (step_fits p.params f) p.steps ≡ true) (nobody_faulty p can) fit
+-- the steps of a plan in which nobody is faulty
+pub own_steps : (p : Plan) → p.faulty ≡ [] → IsTrue (list_all (step_fits p.params p.faulty) p.steps) → IsTrue (list_all (step_fits p.params []) p.steps)
+own_steps p nobody fit = subst (λ (f : List Seat). list_all (step_fits p.params f) p.steps ≡ true) nobody fit
 
 -- the steps of the first items fit, and the next one does
 pub next_fits : (p : Params) (steps : List Step) (k : ℕ) (d : Step) → k < length steps → IsTrue (list_all (step_fits p []) (take (k + 1) steps)) → IsTrue (list_all (step_fits p []) (take k steps)) × IsTrue (step_fits p [] (get_or steps k d))

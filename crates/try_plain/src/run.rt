@@ -1,17 +1,16 @@
 //! A run, event by event.
 
-ghost use Rattle.std.specs.Prelude.{[], All, IfOk, IfSome, OnOk, IsTrue};
+ghost use Rattle.std.specs.Prelude.{◌≡◌, [], All, IfOk, IfSome, OnOk, IsTrue};
 ghost use Rattle.std.specs.List.{list_all};
 ghost use Rattle.fw_base.specs.Sizes.{accepted};
 ghost use Rattle.fw_record.specs.Records.{starts_fit};
-ghost use Rattle.fw_step.specs.Fitting.{step_fits};
-ghost use Rattle.fw_sched.specs.Replayed.{can_replay};
+ghost use Rattle.fw_step.specs.Fitting.{is_honest, step_fits};
 ghost use Rattle.fw_plain.specs.Kept.{CanBeTaken};
 ghost use Rattle.fw_call.specs.Reasons.{IsPlan};
 ghost use Rattle.try_plain.specs.Turns.{IsAskable, WasTaken};
 
 use crate::singles::singles_of;
-use fw_base::Seat;
+use fw_base::{Seat, Seats};
 use fw_cores::cores;
 use fw_deal::Deal;
 use fw_digest::Steps;
@@ -45,11 +44,12 @@ pub struct Turn {
 /// All that befell seats in a run, in order.
 pub type Turns = Items<Turn>;
 
-/// The schedule of a plan that can be replayed, in single steps.
+/// The schedule of a plan in which nobody is faulty, in single steps.
 pub fn singles_of_plan(alloc: Global, plan: &Plan) -> Result<StepList, Memory>
     requires plan { IsPlan plan.now }
-    requires can { IsTrue (can_replay plan.now) }
+    requires nobody { plan.now.faulty ≡ [] }
     ensures fit { IfOk result (λ singles. IsTrue (list_all (step_fits plan.now.params []) singles)) }
+    ensures honest { IfOk result (λ singles. IsTrue (list_all is_honest singles)) }
     ensures askable { IfOk result (λ singles. All IsAskable singles) }
 {
     let singles = singles_of(alloc, plan.steps.items())?;
@@ -61,9 +61,11 @@ pub fn world_of(alloc: Global, deal: Deal, singles: StepList) -> Result<Cast, Me
     requires sizes { IsTrue (accepted deal.origin.params) }
     requires starts { IsTrue (starts_fit deal.origin.params.clients deal.starts) }
     requires steps { IsTrue (list_all (step_fits deal.origin.params []) singles) }
+    requires honest { IsTrue (list_all is_honest singles) }
 {
-    let grid = cores(alloc, &deal)?;
-    World::new(alloc, deal.into_directory(), singles, grid)
+    let nobody = Seats::new(alloc);
+    let grid = cores(alloc, &deal, nobody.items())?;
+    World::new(alloc, deal.into_directory(), nobody, singles, grid)
 }
 
 /// The frame at a place comes to its addressee.

@@ -143,7 +143,7 @@ fn told_of_plan<L: Ledger>(
 ) -> Result<Bytes, Memory>
     requires { IsPlan plan.now }
 {
-    if !plan.can_replay() {
+    if plan.faulty.len() > 0 {
         return said(alloc, "later\n");
     }
     let singles = singles_of_plan(alloc, plan)?;

@@ -1,4 +1,5 @@
-use Rattle.fw_sendable.proofs.Agreeing.{agree_sends}
+-- Each frame that the rule sends can be sent.
+use Rattle.fw_sendable.proofs.Viewing.{agree_sends}
 use Rattle.fw_sendable.proofs.law_agree_sends.Goals as goal
 
 pub returns : goal.returns

@@ -1,8 +1,7 @@
 -- The turn that is chosen is done.
-use Rattle.std.proofs.Common.{List, ℕ, ◌≡◌, ap, ◌∙◌}
+use Rattle.std.proofs.Common.{◌≡◌, ap, ◌∙◌}
 use Rattle.std.specs.Option.{option_map}
 use Rattle.std.proofs.lemmas.Result.{on_ok_weaker}
-use Rattle.fw_rules.specs.Agree.{Step}
 use Rattle.fw_rules.specs.Views as views
 use Rattle.fw_kept.specs.Kept.{self_of, node_of}
 use Rattle.fw_turn.specs.Turns.{turn_of}

@@ -12,10 +12,10 @@ use Rattle.fw_world.proofs.playing.play.Goals as goal
 
 pub new-requires-clause-steps : goal.new-requires-clause-steps
 new-requires-clause-steps g c =
-    steps_of c.args.plan c.into_directory.result c.requires.can (c.into_directory.ensures.sizes ∙ ap (λ (x : PlainDeal). x.origin.params) c.requires.deal) c.requires.steps
+    steps_of c.args.plan c.into_directory.result (c.into_directory.ensures.sizes ∙ ap (λ (x : PlainDeal). x.origin.params) c.requires.deal) c.requires.steps
 
 pub new-requires-clause-fresh : goal.new-requires-clause-fresh
-new-requires-clause-fresh g c = c.in_ok-grid.ensures.fresh c.into_directory.result c.into_directory.ensures.sizes
+new-requires-clause-fresh g c = (rw c.items.ensures at c.in_ok-grid.ensures.fresh) c.into_directory.result c.into_directory.ensures.sizes
 
 pub returns-in-Ok-clause-run : goal.returns-in-Ok-clause-run
 returns-in-Ok-clause-run g c =
@@ -26,7 +26,7 @@ returns-in-Ok-clause-run g c =
     let run : IsRunOf plan d c.run.new.self.seen.trace =
     own_run agreeing.rule_of executing.rule_of filtering.rule_of asking.rule_of plan d nodes c.in_ok-world.world c.run.new.self.seen.trace
     (subst (λ (x : PlainDeal). IsDirectoryOf x.origin d) c.requires.deal c.into_directory.ensures)
-    (goes agreeing.rule_of executing.rule_of filtering.rule_of asking.rule_of c.args.deal plan d nodes c.requires.deal (λ seat h. c.in_ok-grid.ensures.rules d seat h c.into_directory.ensures.sizes))
+    (goes agreeing.rule_of executing.rule_of filtering.rule_of asking.rule_of c.args.deal plan d nodes c.requires.deal (λ seat h. (rw c.items.ensures at c.in_ok-grid.ensures.rules) d seat h c.into_directory.ensures.sizes))
     c.in_ok-world.ensures c.in-Ok.ensures.ok in
     rw same run
 
@@ -37,7 +37,7 @@ returns-in-Ok-clause-played g c = λ keys key.
     let nodes = nodes_of c.in_ok-grid.grid in
     let same : c.run.new.self.seen.directory ≡ d = c.in-Ok.ensures.directory ∙ ap (λ w. w.seen.directory) c.in_ok-world.ensures in
     are_played (λ n. n.hand) (λ n. n.hand) (λ n. n.hand) (λ n. n.hand) c.args.deal plan d nodes c.in_ok-world.world c.run.new.self.seen keys c.requires.deal c.into_directory.ensures c.in_ok-world.ensures
-    c.in_ok-grid.ensures.agreements c.in_ok-grid.ensures.hands key c.in-Ok.ensures.going c.in-Ok.ensures.directory c.in-Ok.ensures.hands
+    (rw c.items.ensures at c.in_ok-grid.ensures.hands) key c.in-Ok.ensures.going c.in-Ok.ensures.directory c.in-Ok.ensures.faulty c.in-Ok.ensures.hands
 
 pub returns-clause-err : goal.returns-clause-err
 returns-clause-err g c =
@@ -46,5 +46,5 @@ returns-clause-err g c =
     let nodes = nodes_of c.in_ok-grid.grid in
     own_fault agreeing.rule_of executing.rule_of filtering.rule_of asking.rule_of plan d nodes c.in_ok-world.world c.run.new.self.seen.trace c.in-Err.fault
     (subst (λ (x : PlainDeal). IsDirectoryOf x.origin d) c.requires.deal c.into_directory.ensures)
-    (goes agreeing.rule_of executing.rule_of filtering.rule_of asking.rule_of c.args.deal plan d nodes c.requires.deal (λ seat h. c.in_ok-grid.ensures.rules d seat h c.into_directory.ensures.sizes))
+    (goes agreeing.rule_of executing.rule_of filtering.rule_of asking.rule_of c.args.deal plan d nodes c.requires.deal (λ seat h. (rw c.items.ensures at c.in_ok-grid.ensures.rules) d seat h c.into_directory.ensures.sizes))
     c.in_ok-world.ensures c.in-Err.ensures.fault

@@ -8,7 +8,7 @@ use Rattle.fw_deal.specs.Deals.{PlainDeal, IsDirectoryOf, hand_of}
 use Rattle.fw_grid.specs.Schedule.{schedule}
 use Rattle.fw_law_honest.specs.Laws.{OneDecides, deployed}
 use Rattle.fw_world.specs.Plans.{deal_of, IsRunOf}
-use Rattle.fw_world.proofs.OwnRun.{with_starts}
+use Rattle.fw_world.proofs.OwnRun.{with_starts, honest_run}
 use Rattle.fw_world.proofs.replaying.replay_counted.Goals as goal
 
 -- one agreement node decides
@@ -23,7 +23,7 @@ report_of-requires g c =
     let plan = c.args.plan in
     let is : c.in_ok-deal.deal ≡ deal_of plan = c.in_ok-deal.ensures ∙ ap (with_starts plan) c.items.ensures in
     let key : c.in_ok-keys.keys ≡ hand_of (deal_of plan) (Exec 0) = c.in_ok-keys.ensures.hand ∙ ap (λ (x : PlainDeal). hand_of x (Exec 0)) is in
-    (deployed (deal_of plan) c.in-Ok.world.seen.directory, c.in-Ok.ensures.played c.in_ok-keys.keys key)
+    (deployed (deal_of plan) c.in-Ok.world.seen.directory, (plan.faulty, c.in-Ok.ensures.played c.in_ok-keys.keys key))
 
 pub returns-in-Ok-report_of-clause-ok : goal.returns-in-Ok-report_of-clause-ok
 returns-in-Ok-report_of-clause-ok g c =
@@ -37,7 +37,7 @@ returns-in-Ok-report_of-clause-ok g c =
       directory = d;
       trace = trace;
       run = run;
-      report = c.in-Ok-report_of.ensures (deployed (deal_of plan) d) (c.in-Ok.ensures.played c.in_ok-keys.keys key);
-      accepted = λ one. c.law_accepted.ensures.runs (deal_of plan) d (decides plan d run.dealt one c.requires.starts) (schedule plan.steps) trace run.run;
-      certificates = λ one. c.law_certificates.ensures.runs (deal_of plan) d (decides plan d run.dealt one c.requires.starts) (schedule plan.steps) trace run.run;
+      report = c.in-Ok-report_of.ensures (deployed (deal_of plan) d) plan.faulty (c.in-Ok.ensures.played c.in_ok-keys.keys key);
+      accepted = λ one nobody. c.law_accepted.ensures.runs (deal_of plan) d (decides plan d run.dealt one c.requires.starts) (schedule plan.steps) trace (honest_run plan d trace nobody run);
+      certificates = λ one nobody. c.law_certificates.ensures.runs (deal_of plan) d (decides plan d run.dealt one c.requires.starts) (schedule plan.steps) trace (honest_run plan d trace nobody run);
     }

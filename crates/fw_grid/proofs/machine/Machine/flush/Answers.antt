@@ -12,7 +12,7 @@ returns-in_default-clause-ok g c =
     let old = c.args.self.now in
     let now = c.loop.self in
     let w = world_of g.A.Node.rule g.E.Node.rule g.F.Node.rule g.C.Node.rule old in
-    let world = same_world now.directory old.directory (rule_in g.A.Node.rule g.E.Node.rule g.F.Node.rule g.C.Node.rule now) (rule_in g.A.Node.rule g.E.Node.rule g.F.Node.rule g.C.Node.rule old) c.loop.invariant.directory c.loop.invariant.rule in
+    let world = same_world now.directory old.directory now.faulty old.faulty (rule_in g.A.Node.rule g.E.Node.rule g.F.Node.rule g.C.Node.rule now) (rule_in g.A.Node.rule g.E.Node.rule g.F.Node.rule g.C.Node.rule old) c.loop.invariant.directory c.loop.invariant.faulty c.loop.invariant.rule in
     let none = sym c.in_default.is ∙ c.next_due.ensures.next ∙ ap (λ (x : Seats). next_frame x.rules now.trace.log 0 now.trace.pool) world in
     rw c.next_due.ensures.same (flush_stops w c.loop.counter c.args.most old.trace now.trace c.loop.invariant.front c.loop.invariant.within none)
 
@@ -21,7 +21,7 @@ returns-in-Err-clause-limit g c =
     let old = c.args.self.now in
     let now = c.loop.self in
     let w = world_of g.A.Node.rule g.E.Node.rule g.F.Node.rule g.C.Node.rule old in
-    let world = same_world now.directory old.directory (rule_in g.A.Node.rule g.E.Node.rule g.F.Node.rule g.C.Node.rule now) (rule_in g.A.Node.rule g.E.Node.rule g.F.Node.rule g.C.Node.rule old) c.loop.invariant.directory c.loop.invariant.rule in
+    let world = same_world now.directory old.directory now.faulty old.faulty (rule_in g.A.Node.rule g.E.Node.rule g.F.Node.rule g.C.Node.rule now) (rule_in g.A.Node.rule g.E.Node.rule g.F.Node.rule g.C.Node.rule old) c.loop.invariant.directory c.loop.invariant.faulty c.loop.invariant.rule in
     let due = sym c.in-Some.is ∙ c.next_due.ensures.next ∙ ap (λ (x : Seats). next_frame x.rules now.trace.log 0 now.trace.pool) world in
     let here = ap (λ s. happens (world_of g.A.Node.rule g.E.Node.rule g.F.Node.rule g.C.Node.rule s) s.trace (Delivers c.in-Some.place)) c.next_due.ensures.same ∙ ap (λ (x : Seats). happens x now.trace (Delivers c.in-Some.place)) world in
     let kept : c.deliver.new.self.trace ≡ now.trace = c.in-Err.ensures.err ∙ ap (λ s. s.trace) c.next_due.ensures.same in
@@ -35,13 +35,14 @@ loop-preserved g c =
     let old = c.args.self.now in
     let now = c.loop.self in
     let w = world_of g.A.Node.rule g.E.Node.rule g.F.Node.rule g.C.Node.rule old in
-    let world = same_world now.directory old.directory (rule_in g.A.Node.rule g.E.Node.rule g.F.Node.rule g.C.Node.rule now) (rule_in g.A.Node.rule g.E.Node.rule g.F.Node.rule g.C.Node.rule old) c.loop.invariant.directory c.loop.invariant.rule in
+    let world = same_world now.directory old.directory now.faulty old.faulty (rule_in g.A.Node.rule g.E.Node.rule g.F.Node.rule g.C.Node.rule now) (rule_in g.A.Node.rule g.E.Node.rule g.F.Node.rule g.C.Node.rule old) c.loop.invariant.directory c.loop.invariant.faulty c.loop.invariant.rule in
     let due = sym c.in-Some.is ∙ c.next_due.ensures.next ∙ ap (λ (x : Seats). next_frame x.rules now.trace.log 0 now.trace.pool) world in
     let here = ap (λ s. happens (world_of g.A.Node.rule g.E.Node.rule g.F.Node.rule g.C.Node.rule s) s.trace (Delivers c.in-Some.place)) c.next_due.ensures.same ∙ ap (λ (x : Seats). happens x now.trace (Delivers c.in-Some.place)) world in
     let within : c.loop.counter + 1 ≤ c.args.most = omega arith in
     record {
       going = c.in_default-deliver.ensures.going;
       directory = c.in_default-deliver.ensures.directory ∙ ap (λ s. s.directory) c.next_due.ensures.same ∙ c.loop.invariant.directory;
+      faulty = c.in_default-deliver.ensures.faulty ∙ ap (λ s. s.faulty) c.next_due.ensures.same ∙ c.loop.invariant.faulty;
       rule = c.in_default-deliver.ensures.rule ∙ ap (λ s. rule_in g.A.Node.rule g.E.Node.rule g.F.Node.rule g.C.Node.rule s) c.next_due.ensures.same ∙ c.loop.invariant.rule;
       hands = c.in_default-deliver.ensures.hands ∙ ap (λ s. hands_in g.A.Node.hand g.E.Node.hand g.F.Node.hand g.C.Node.hand s) c.next_due.ensures.same ∙ c.loop.invariant.hands;
       within = within;

@@ -8,6 +8,7 @@ abbrev pub invariant-loop : goal.invariant-loop
 invariant-loop g l = record {
   going : l.self.failed ≡ false;
   directory : l.self.directory ≡ l.fn.self.directory;
+  faulty : l.self.faulty ≡ l.fn.self.faulty;
   rule : rule_in g.A.Node.rule g.E.Node.rule g.F.Node.rule g.C.Node.rule l.self ≡ rule_in g.A.Node.rule g.E.Node.rule g.F.Node.rule g.C.Node.rule l.fn.self;
   hands : hands_in g.A.Node.hand g.E.Node.hand g.F.Node.hand g.C.Node.hand l.self ≡ hands_in g.A.Node.hand g.E.Node.hand g.F.Node.hand g.C.Node.hand l.fn.self;
   within : l.counter ≤ l.most;

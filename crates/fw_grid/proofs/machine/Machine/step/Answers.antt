@@ -1,5 +1,5 @@
 -- An operation of a schedule can be asked; and a flush that fails delivered some frames.
-use Rattle.std.proofs.Common.{◌≡◌, ◌≤◌, ℕ, Ok, [], IsTrue, subst}
+use Rattle.std.proofs.Common.{◌≡◌, ◌≤◌, ℕ, Ok, IsTrue, subst}
 use Rattle.std.proofs.lemmas.Bool.{and_parts}
 use Rattle.fw_base.specs.declared.seat.Seat.TheVariants as seats
 use Rattle.fw_base.specs.Sizes.{accepted}
@@ -16,7 +16,7 @@ take-requires-clause-come g c =
     let p = c.args.self.now.directory.params in
     let sizes : IsTrue (accepted p) = subst (λ v. IsTrue (accepted v.directory.params)) c.self.view_is c.self.invariant.sizes in
     let fit = rw c.in-Submit.is at c.requires.fit in
-    op_more p.clients c.in-Submit.op (few_clients p sizes) (and_parts (is_correct p [] (seats.Client c.in-Submit.client)) (op_fits p.clients c.in-Submit.op) fit).1
+    op_more p.clients c.in-Submit.op (few_clients p sizes) (and_parts (is_correct p c.args.self.now.faulty (seats.Client c.in-Submit.client)) (op_fits p.clients c.in-Submit.op) fit).1
 
 pub returns-in-Flush-clause-front : goal.returns-in-Flush-clause-front
 returns-in-Flush-clause-front g c =

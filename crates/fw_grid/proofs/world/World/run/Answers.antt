@@ -14,7 +14,7 @@ returns-in-Err-clause-fault g c =
     let old = c.args.self.now in
     let now = c.loop.self in
     let w = world_of g.A.Node.rule g.E.Node.rule g.F.Node.rule g.C.Node.rule old.seen in
-    let world = same_world now.seen.directory old.seen.directory (rule_in g.A.Node.rule g.E.Node.rule g.F.Node.rule g.C.Node.rule now.seen) (rule_in g.A.Node.rule g.E.Node.rule g.F.Node.rule g.C.Node.rule old.seen) c.loop.invariant.directory c.loop.invariant.rule in
+    let world = same_world now.seen.directory old.seen.directory now.seen.faulty old.seen.faulty (rule_in g.A.Node.rule g.E.Node.rule g.F.Node.rule g.C.Node.rule now.seen) (rule_in g.A.Node.rule g.E.Node.rule g.F.Node.rule g.C.Node.rule old.seen) c.loop.invariant.directory c.loop.invariant.faulty c.loop.invariant.rule in
     fault_of_all (world_of g.A.Node.rule g.E.Node.rule g.F.Node.rule g.C.Node.rule now.seen) w now.done old.done now.seen.trace old.seen.trace c.step.new.self.seen.trace (schedule now.left) (schedule old.left) c.in-Err.fault world c.loop.invariant.runs c.loop.invariant.ends c.in-Err.ensures.fault
 
 pub returns-in-Err-clause-front : goal.returns-in-Err-clause-front
@@ -22,7 +22,7 @@ returns-in-Err-clause-front g c =
     let old = c.args.self.now in
     let now = c.loop.self in
     let w = world_of g.A.Node.rule g.E.Node.rule g.F.Node.rule g.C.Node.rule old.seen in
-    let world = same_world now.seen.directory old.seen.directory (rule_in g.A.Node.rule g.E.Node.rule g.F.Node.rule g.C.Node.rule now.seen) (rule_in g.A.Node.rule g.E.Node.rule g.F.Node.rule g.C.Node.rule old.seen) c.loop.invariant.directory c.loop.invariant.rule in
+    let world = same_world now.seen.directory old.seen.directory now.seen.faulty old.seen.faulty (rule_in g.A.Node.rule g.E.Node.rule g.F.Node.rule g.C.Node.rule now.seen) (rule_in g.A.Node.rule g.E.Node.rule g.F.Node.rule g.C.Node.rule old.seen) c.loop.invariant.directory c.loop.invariant.faulty c.loop.invariant.rule in
     c.loop.invariant.fronts c.step.new.self.seen.trace (subst (λ (x : Seats). IsFront x now.seen.trace (schedule now.left) c.step.new.self.seen.trace) world c.in-Err.ensures.front)
 
 pub loop-preserved : goal.loop-preserved
@@ -30,7 +30,7 @@ loop-preserved g c =
     let old = c.args.self.now in
     let now = c.loop.self in
     let w = world_of g.A.Node.rule g.E.Node.rule g.F.Node.rule g.C.Node.rule old.seen in
-    let world = same_world now.seen.directory old.seen.directory (rule_in g.A.Node.rule g.E.Node.rule g.F.Node.rule g.C.Node.rule now.seen) (rule_in g.A.Node.rule g.E.Node.rule g.F.Node.rule g.C.Node.rule old.seen) c.loop.invariant.directory c.loop.invariant.rule in
+    let world = same_world now.seen.directory old.seen.directory now.seen.faulty old.seen.faulty (rule_in g.A.Node.rule g.E.Node.rule g.F.Node.rule g.C.Node.rule now.seen) (rule_in g.A.Node.rule g.E.Node.rule g.F.Node.rule g.C.Node.rule old.seen) c.loop.invariant.directory c.loop.invariant.faulty c.loop.invariant.rule in
     let next = c.step.new.self in
     let some : 0 < length now.left = (let l = c.loop.invariant.left in omega arith) in
     let done : run_from w now.done now.seen.trace (schedule (take 1 now.left)) ≡ Ok next.seen.trace =
@@ -40,6 +40,7 @@ loop-preserved g c =
     record {
       going = c.in_default.ensures.going;
       directory = c.in_default.ensures.directory ∙ c.loop.invariant.directory;
+      faulty = c.in_default.ensures.faulty ∙ c.loop.invariant.faulty;
       rule = c.in_default.ensures.rule ∙ c.loop.invariant.rule;
       hands = c.in_default.ensures.hands ∙ c.loop.invariant.hands;
       left = (let l = c.loop.invariant.left in omega arith);

@@ -12,6 +12,7 @@ invariant-loop g l =
     record {
       going : l.self.seen.failed ≡ false;
       directory : l.self.seen.directory ≡ l.fn.self.seen.directory;
+      faulty : l.self.seen.faulty ≡ l.fn.self.seen.faulty;
       rule : rule_in g.A.Node.rule g.E.Node.rule g.F.Node.rule g.C.Node.rule l.self.seen ≡ rule_in g.A.Node.rule g.E.Node.rule g.F.Node.rule g.C.Node.rule l.fn.self.seen;
       hands : hands_in g.A.Node.hand g.E.Node.hand g.F.Node.hand g.C.Node.hand l.self.seen ≡ hands_in g.A.Node.hand g.E.Node.hand g.F.Node.hand g.C.Node.hand l.fn.self.seen;
       left : length l.self.left + l.counter ≡ l.count;

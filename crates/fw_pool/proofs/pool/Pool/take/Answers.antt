@@ -22,7 +22,7 @@ invariant_of-self-2 c =
     let within = rw (← c.self.view_is) at c.requires.within in
     let grown : c.extend.new.frames.items ≡ frames ++ more = c.in_ok-extend.ensures.frames ∙ ap (λ (o : Out). frames ++ from_seat c.args.from o) c.sent-2.ensures in
     let counts = room_counted c.args.from frames c.args.out.now _ c.len.result c.self.inside.bytes c.room.result c.in-Ok.bytes count c.self.invariant.sum c.sent.ensures c.room.ensures c.in-Ok.is c.self.invariant.few c.self.invariant.small in
-    holds_more c.self.inside.params frames more c.extend.new.frames.items c.self.inside.marks.items c.mark.new.marks.items c.self.inside.log c.extend.new.log c.args.note c.self.inside.due c.self.inside.bytes c.in-Ok.bytes
+    holds_more c.self.inside.params c.self.inside.faulty frames more c.extend.new.frames.items c.self.inside.marks.items c.mark.new.marks.items c.self.inside.log c.extend.new.log c.args.note c.self.inside.due c.self.inside.bytes c.in-Ok.bytes
     c.self.invariant within grown c.in_ok-extend.ensures.log (c.mark.ensures.count ∙ c.in_ok-extend.ensures.count)
     (λ k. c.mark.ensures.marked k ∙ ap₂ (λ (a b : Bool). a || b) (ap (is_frame k) c.place-place.ensures) (c.in_ok-extend.ensures.same k))
     counts.0 counts.1 counts.2

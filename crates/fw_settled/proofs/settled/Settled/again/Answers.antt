@@ -1,5 +1,5 @@
 -- The queue has the replies that are held, and what has gone up.
-use Rattle.std.proofs.Common.{◌≡◌, reverse, sym, ◌∙◌}
+use Rattle.std.proofs.Common.{reverse, sym, ◌∙◌}
 use Rattle.fw_settled.proofs.Queueing.{again_is}
 use Rattle.fw_settled.proofs.settled.Settled.again.Goals as goal
 

@@ -1,2 +1,0 @@
--- The node is that of its seat.
-use Rattle.fw_world.proofs.viewing.view_of.Goals as goal
